@@ -1,10 +1,11 @@
 //! A node, as the steps of a script see it.
 
-ghost use Rattle.std.specs.Prelude.{◌≡◌, ◌++◌, ◌∷◌, [], List, ℕ, IfOk, IsTrue, OnOk};
+ghost use Rattle.std.specs.Prelude.{◌≡◌, ◌++◌, ◌∷◌, [], List, ℕ, is_some, option_map, slice_get, IfOk, IsTrue, OnOk};
 ghost use Rattle.sqlite.specs.Held.{state};
-ghost use Rattle.ibc_machine.specs.ledger.Ledgers.{chain_of};
+ghost use Rattle.ibc_machine.specs.ledger.Ledgers.{chain_of, state_of};
 ghost use Rattle.ibc_journal.specs.Tables.{JournalItem};
-ghost use Rattle.ibc_node.specs.Nodes.{HasKept, TellsOn};
+ghost use Rattle.ibc_script_worlds.specs.WorldChains.{plans_of, proof_in};
+ghost use Rattle.ibc_node.specs.Nodes.{node_world, HasKept, TellsOn};
 ghost use Rattle.ibc_node_lines.specs.Desks.{desk_chains, TellsEvent};
 
 use ibc_ids::{Account, Bytes, ChannelId, Denom, Key, PortId, Refusal};
@@ -86,7 +87,9 @@ impl<S: Alter + Drop> Desk<S> {
     }
 
     /// Whether there is a chain of this number.
-    pub fn has_chain(&self, chain: u8) -> bool {
+    pub fn has_chain(&self, chain: u8) -> bool
+        ensures { result ≡ is_some (slice_get (node_world self.now.node).ledgers chain) }
+    {
         self.ledger(chain).is_some()
     }
 
@@ -157,7 +160,10 @@ impl<S: Alter + Drop> Desk<S> {
         }
     }
 
-    fn ledger(&self, chain: u8) -> Option<&Ledger> {
+    // The ledger of a chain, where there is one.
+    fn ledger(&self, chain: u8) -> Option<&Ledger>
+        ensures { option_map (λ ledger. ledger.now.ledger) result ≡ slice_get (node_world self.now.node).ledgers chain }
+    {
         self.node.world().ledger(chain)
     }
 }
@@ -210,13 +216,9 @@ impl<S: Alter + Drop> Chains for Desk<S> {
     }
 
     fn proof(&self, chain: u8, height: u64, key: &Key) -> Result<Option<Proof>, Refusal> {
-        let Some(ledger) = self.ledger(chain) else {
-            return Ok(None);
-        };
-        match ledger.query_proof(height, key) {
-            Ok(proof) => Ok(Some(proof)),
-            Err(Refusal::NoConsensus) => Ok(None),
-            Err(refusal) => Err(refusal),
+        match self.ledger(chain) {
+            Some(ledger) => ledger_proof(ledger, height, key),
+            None => Ok(None),
         }
     }
 
@@ -227,19 +229,15 @@ impl<S: Alter + Drop> Chains for Desk<S> {
 
     fn working_time(&self, chain: u8) -> Result<u64, Refusal> {
         match self.ledger(chain) {
-            Some(ledger) => {
-                let view = ledger.view()?;
-                Ok(view.working_time())
-            }
+            Some(ledger) => ledger_time(ledger),
             None => Ok(0),
         }
     }
 
     fn plans(&self, first: u8, second: u8) -> Result<(Vec<Message>, Vec<Message>), Refusal> {
-        match (self.ledger(first), self.ledger(second)) {
-            (Some(first), Some(second)) => plans_between(self.alloc, first, second),
-            _ => Ok((Vec::new(self.alloc), Vec::new(self.alloc))),
-        }
+        let first = self.ledger(first);
+        let second = self.ledger(second);
+        plans_if_there(self.alloc, first, second)
     }
 }
 
@@ -260,5 +258,38 @@ impl<S: Alter + Drop> Holdings for Desk<S> {
             Some(ledger) => ledger.all_notes(),
             None => Ok(Vec::new(self.alloc)),
         }
+    }
+}
+
+// The proof of what a height of a ledger has at a key, none where the ledger doesn't keep it.
+fn ledger_proof(ledger: &Ledger, height: u64, key: &Key) -> Result<Option<Proof>, Refusal>
+    ensures { IfOk result (λ found. found ≡ proof_in height key.now ledger.now.ledger) }
+{
+    match ledger.query_proof(height, key) {
+        Ok(proof) => Ok(Some(proof)),
+        Err(Refusal::NoConsensus) => Ok(None),
+        Err(refusal) => Err(refusal),
+    }
+}
+
+// The time of a ledger's working block.
+fn ledger_time(ledger: &Ledger) -> Result<u64, Refusal>
+    ensures { IfOk result (λ time. time ≡ (state_of ledger.now.ledger).chain.time) }
+{
+    let view = ledger.view()?;
+    Ok(view.working_time())
+}
+
+// What relayers plan between two ledgers, nothing where one isn't there.
+fn plans_if_there(
+    alloc: Global,
+    first: Option<&Ledger>,
+    second: Option<&Ledger>,
+) -> Result<(Vec<Message>, Vec<Message>), Refusal>
+    ensures { IfOk result (λ plans. (plans.0.items, plans.1.items) ≡ plans_of (option_map (λ ledger. ledger.now.ledger) first.entry) (option_map (λ ledger. ledger.now.ledger) second.entry)) }
+{
+    match (first, second) {
+        (Some(first), Some(second)) => plans_between(alloc, first, second),
+        (Some(_), None) | (None, _) => Ok((Vec::new(alloc), Vec::new(alloc))),
     }
 }
