@@ -6,7 +6,7 @@ ghost use Rattle.ibc_machine.specs.ledger.Ledgers.{chain_of, state_of};
 ghost use Rattle.ibc_journal.specs.Tables.{JournalItem};
 ghost use Rattle.ibc_script_worlds.specs.WorldChains.{plans_of, proof_in};
 ghost use Rattle.ibc_node.specs.Nodes.{node_world, HasKept, TellsOn};
-ghost use Rattle.ibc_node_lines.specs.Desks.{desk_chains, TellsEvent};
+ghost use Rattle.ibc_node_lines.specs.Desks.{desk_chains, RunsStep, TellsEvent};
 
 use ibc_ids::{Account, Bytes, ChannelId, Denom, Key, PortId, Refusal};
 use ibc_ledger::Ledger;
@@ -113,7 +113,8 @@ impl<S: Alter + Drop> Desk<S> {
         log_place: u32,
         step: Step,
     ) -> Result<Vec<(u8, KeptAnswer)>, NodeFault>
-        ensures { IfOk result (λ told. TellsOn (state S.Store) self.old.node [] self.new.node told.items) }
+        ensures tells { IfOk result (λ told. TellsOn (state S.Store) self.old.node [] self.new.node told.items) }
+        ensures ran { IfOk result (λ told. RunsStep (state S.Store) names.now log_place step self.old.node told.items self.new.node) }
     {
         if names.len() > 8 {
             drop(step);
@@ -148,6 +149,7 @@ impl<S: Alter + Drop> Desk<S> {
     fn tell(&mut self, chain: u8, kept: KeptAnswer) -> Result<Reply, Refusal>
         ensures node { self.new.node ≡ self.old.node }
         ensures told { OnOk result (self.new.told.items ≡ self.old.told.items ++ (chain, kept) ∷ []) }
+        ensures log_place { self.new.log_place ≡ self.old.log_place }
     {
         let reply = kept.reply.clone()?;
         match self.told.push((chain, kept)) {

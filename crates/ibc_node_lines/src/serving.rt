@@ -6,7 +6,7 @@ ghost use Rattle.sqlite.specs.State.{HasCleanDisk};
 ghost use Rattle.sqlite.specs.Held.{state};
 ghost use Rattle.ibc_journal.specs.Tables.{JournalItem};
 ghost use Rattle.ibc_node.specs.Nodes.{node_end, node_journal, node_waiting, with_waiting, HasJournal, HasKept, HasAll, TellsOn};
-ghost use Rattle.ibc_node_lines.specs.Desks.{TellsEvent};
+ghost use Rattle.ibc_node_lines.specs.Desks.{RunsStep, TellsEvent};
 ghost use Rattle.ibc_node_lines.specs.OtherLines.{IsMistakenLine};
 ghost use Rattle.ibc_node_lines.specs.Told.{answers_in, answers_of, resumed_text, HasOneMore, HasTold, HasWritten, ServesOn};
 
@@ -286,6 +286,7 @@ impl<S: Alter + Drop> Server<S> {
     // Takes a step that asks for events.
     fn ask_by(&mut self, log_place: u32, step: Step) -> Result<NodeLine, NodeFault>
         ensures answers { IfOk result (λ told. TellsOn (state S.Store) self.old.desk.node [] self.new.desk.node (answers_of told)) }
+        ensures ran { IfOk result (λ told. RunsStep (state S.Store) self.old.names.items log_place step self.old.desk.node (answers_of told) self.new.desk.node) }
         ensures told { self.new.told.items ≡ self.old.told.items }
     {
         Ok(NodeLine::Answers(self.desk.act(self.names.as_slice(), log_place, step)?))
