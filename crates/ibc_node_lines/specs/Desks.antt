@@ -13,7 +13,8 @@ use Rattle.ibc_script_cli.specs.ScriptChains.{ChainAnswers, ScriptChains}
 use Rattle.ibc_script_worlds.specs.WorldChains.{world_answers}
 use Rattle.ibc_node.specs.declared.node.KeptAnswer.{KeptAnswer}
 use Rattle.ibc_node.specs.declared.node.Node.{Node}
-use Rattle.ibc_node.specs.Nodes.{node_world, HasKept, TakesEvent, TellsOn}
+use Rattle.ibc_node.specs.Marks.{node_marks}
+use Rattle.ibc_node.specs.Nodes.{node_end, node_world, HasKept, StaysBeside, TakesEvent, TellsOn}
 use Rattle.ibc_node_lines.specs.declared.desk.Desk.{Desk}
 
 -- A node was asked for an event, which came by a place of a log. What came of it is told, beside the number of its chain, and nothing else.
@@ -63,3 +64,10 @@ pub record RunsStep {S : Type 0} (shows : Held S → State) (names : List Text) 
   pub count : ℕ
   pub text : Text
   pub reaches : Reaches (desk_chains shows) names count (asking_acts step) before text [] after
+
+-- a node was only read: it stays beside its journal, and its world, its entries and the places of the log by which they came stay as they are
+pub record IsOnlyRead {S : Type 0} (shows : Held S → State) (old new : Node S) : Type 0 where
+  pub beside : StaysBeside shows old new
+  pub world : node_world new ≡ node_world old
+  pub end : node_end new ≡ node_end old
+  pub marks : node_marks new ≡ node_marks old

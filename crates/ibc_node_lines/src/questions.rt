@@ -2,7 +2,7 @@
 
 ghost use Rattle.std.specs.Prelude.{OnOk};
 ghost use Rattle.sqlite.specs.Held.{state};
-ghost use Rattle.ibc_node.specs.Nodes.{StaysBeside};
+ghost use Rattle.ibc_node_lines.specs.Desks.{IsOnlyRead};
 
 use crate::request::NodeQuestion;
 use crate::{Desk, LineFault, answers};
@@ -22,13 +22,13 @@ use std::alloc::Global;
 const MOST_KEPT: u32 = 100;
 
 /// The answer to a question of a line, or what is wrong with the line.
-#[tactic(auto, using(ibc_node::proofs::Staying::keeps_same))]
+#[tactic(auto, using(crate::proofs::OnlyRead::read_same))]
 pub fn tell<S: Alter + Drop>(
     alloc: Global,
     desk: &mut Desk<S>,
     question: NodeQuestion,
 ) -> Result<Result<String, LineFault>, NodeFault>
-    ensures { OnOk result (StaysBeside (state S.Store) desk.old.node desk.new.node) }
+    ensures { OnOk result (IsOnlyRead (state S.Store) desk.old.node desk.new.node) }
 {
     if !has_chains(desk, &question) {
         drop(question);
@@ -51,13 +51,13 @@ fn has_chains<S: Alter + Drop>(desk: &Desk<S>, question: &NodeQuestion) -> bool 
 }
 
 // The answer to a question whose chains are there.
-#[tactic(auto, using(ibc_node::proofs::Staying::keeps_same))]
+#[tactic(auto, using(crate::proofs::OnlyRead::read_same))]
 fn told<S: Alter + Drop>(
     alloc: Global,
     desk: &mut Desk<S>,
     question: NodeQuestion,
 ) -> Result<String, NodeFault>
-    ensures { OnOk result (StaysBeside (state S.Store) desk.old.node desk.new.node) }
+    ensures { OnOk result (IsOnlyRead (state S.Store) desk.old.node desk.new.node) }
 {
     match question {
         NodeQuestion::Entries => Ok(answers::entries(alloc, desk.node.entries())?),
@@ -215,7 +215,7 @@ fn tell_kept<S: Alter + Drop>(
     desk: &mut Desk<S>,
     from: u32,
 ) -> Result<String, NodeFault>
-    ensures { OnOk result (StaysBeside (state S.Store) desk.old.node desk.new.node) }
+    ensures { OnOk result (IsOnlyRead (state S.Store) desk.old.node desk.new.node) }
 {
     let texts = kept_texts(alloc, desk, from)?;
     Ok(answers::list(alloc, "kept", texts.as_slice())?)
@@ -227,7 +227,7 @@ fn kept_texts<S: Alter + Drop>(
     desk: &mut Desk<S>,
     from: u32,
 ) -> Result<Vec<String>, NodeFault>
-    ensures { OnOk result (StaysBeside (state S.Store) desk.old.node desk.new.node) }
+    ensures { OnOk result (IsOnlyRead (state S.Store) desk.old.node desk.new.node) }
 {
     let mut texts = Vec::new(alloc);
     'places: for place in from..from.saturating_add(MOST_KEPT) {

@@ -6,7 +6,7 @@ ghost use Rattle.sqlite.specs.State.{HasCleanDisk};
 ghost use Rattle.sqlite.specs.Held.{state};
 ghost use Rattle.ibc_journal.specs.Tables.{JournalItem};
 ghost use Rattle.ibc_node.specs.Nodes.{node_end, node_journal, node_waiting, with_waiting, HasJournal, HasKept, HasAll, TellsOn};
-ghost use Rattle.ibc_node_lines.specs.Desks.{RunsStep, TellsEvent};
+ghost use Rattle.ibc_node_lines.specs.Desks.{IsOnlyRead, RunsStep, TellsEvent};
 ghost use Rattle.ibc_node_lines.specs.OtherLines.{IsMistakenLine};
 ghost use Rattle.ibc_node_lines.specs.Told.{answers_in, answers_of, resumed_text, HasOneMore, HasTold, HasWritten, ServesOn};
 
@@ -295,6 +295,7 @@ impl<S: Alter + Drop> Server<S> {
     // Answers a question.
     fn tell(&mut self, question: NodeQuestion) -> Result<NodeLine, NodeFault>
         ensures answers { IfOk result (λ told. TellsOn (state S.Store) self.old.desk.node [] self.new.desk.node (answers_of told)) }
+        ensures read { OnOk result (IsOnlyRead (state S.Store) self.old.desk.node self.new.desk.node) }
         ensures told { self.new.told.items ≡ self.old.told.items }
     {
         let text = tell(self.alloc, &mut self.desk, question)?;
