@@ -1,4 +1,5 @@
 pub mod Along
+pub mod Asked
 pub mod Texts
 pub mod Served
 pub mod NodeRuns

@@ -3,3 +3,4 @@ pub mod Desks
 pub mod OtherLines
 pub mod Told
 pub mod Runs
+pub mod QuestionAnswers
