@@ -1,6 +1,6 @@
 //! A node answers lines, in their order.
 
-ghost use Rattle.std.specs.Prelude.{◌≡◌, ◌⊎◌, [], List, ℕ, true, IfOk, MatchResult, OnOk};
+ghost use Rattle.std.specs.Prelude.{◌≡◌, ◌⊎◌, ◌<◌, ◌≤◌, ◌-◌, [], List, ℕ, length, nat_lt, true, IfOk, IsTrue, MatchResult, OnOk};
 ghost use Rattle.std.specs.Io.KnownBytes.{Appends, Keeps};
 ghost use Rattle.sqlite.specs.State.{HasCleanDisk};
 ghost use Rattle.sqlite.specs.Held.{state};
@@ -159,24 +159,37 @@ impl<S: Alter + Drop> Server<S> {
         Ok(())
     }
 
-    // Settles where as many lines wait as may share a commit, or where no whole line has come.
+    // Settles where as many lines wait as may share a commit, or where no whole line has come. Fewer may wait behind it.
     fn settle_if_due<R: Read, W: Write>(
         &mut self,
         input: &BufReader<R>,
         output: &mut W,
         batch: usize,
     ) -> Result<(), NodeFault>
-        ensures { OnOk result (ServesOn (state S.Store) self.old.desk.node self.old.told.items (W.contents output.old) self.new.desk.node self.new.told.items (W.contents output.new)) }
+        ensures serves { OnOk result (ServesOn (state S.Store) self.old.desk.node self.old.told.items (W.contents output.old) self.new.desk.node self.new.told.items (W.contents output.new)) }
+        ensures few { OnOk result (length self.new.told.items ≤ batch - 1) }
     {
-        if !self.is_due(input, batch) {
+        if self.may_wait(input, batch) {
             return Ok(());
         }
         self.settle(output)
     }
 
-    // Whether as many lines wait as may share a commit, or no whole line has come.
-    fn is_due<R: Read>(&self, input: &BufReader<R>, batch: usize) -> bool {
-        self.told.len() >= batch || !input.buffer().contains(&b'\n')
+    // Whether more lines may share the commit of those that wait, and a whole line has come.
+    fn may_wait<R: Read>(&self, input: &BufReader<R>, batch: usize) -> bool
+        ensures { IsTrue result → length self.now.told.items < batch }
+    {
+        if self.has_room(batch) {
+            return input.buffer().contains(&b'\n');
+        }
+        false
+    }
+
+    // Whether more lines may share the commit of those that wait.
+    fn has_room(&self, batch: usize) -> bool
+        ensures { result ≡ nat_lt (length self.now.told.items) batch }
+    {
+        self.told.as_slice().len() < batch
     }
 
     // Answers the next line, if there is one.

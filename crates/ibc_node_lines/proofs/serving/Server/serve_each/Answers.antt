@@ -19,7 +19,7 @@ lines-preserved g c =
     let next = c.in_ok-answer_next in
     let answered = serves_next shows next.field-0 at.self.desk.node mid.desk.node at.self.told.items mid.told.items out next.ensures.line next.ensures.tells in
     let one = serves_on shows was.desk.node at.self.desk.node mid.desk.node was.told.items at.self.told.items mid.told.items before out out at.invariant answered in
-    serves_on shows was.desk.node mid.desk.node now.desk.node was.told.items mid.told.items now.told.items before out after one c.in_ok-settle_if_due.ensures
+    serves_on shows was.desk.node mid.desk.node now.desk.node was.told.items mid.told.items now.told.items before out after one c.in_ok-settle_if_due.ensures.serves
 
 pub returns-then-not-branch : goal.returns-then-not-branch
 returns-then-not-branch g c =
