@@ -4,3 +4,4 @@ pub mod OtherLines
 pub mod Told
 pub mod Runs
 pub mod QuestionAnswers
+pub mod Requests
