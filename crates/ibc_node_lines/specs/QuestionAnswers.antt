@@ -1,5 +1,5 @@
 -- What questions are answered, as the world stands.
-use Rattle.std.specs.Prelude.{◌≡◌, ◌++◌, ◌&&◌, ℕ, Bool, true, codes, List, [], map, Option, slice_get, is_some, Result, Ok, Err, ⊤}
+use Rattle.std.specs.Prelude.{◌≡◌, ◌+◌, ◌++◌, ◌&&◌, ℕ, Bool, true, codes, List, [], ◌∷◌, map, Option, slice_get, is_some, Result, Ok, Err}
 use Rattle.std.specs.Option.{option_map_or}
 use Rattle.hex.specs.Hex.{encode_lower}
 use Rattle.ibc_ids.specs.Texts.{Text}
@@ -10,6 +10,7 @@ use Rattle.ibc_wire.specs.Fields.{bytes_of}
 use Rattle.ibc_wire.specs.Messages.{message_fields}
 use Rattle.ibc_wire.specs.declared.messages.Message.{Message}
 use Rattle.ibc_refinement.specs.World.{WorldState}
+use Rattle.ibc_journal.specs.Tables.{JournalItem}
 use Rattle.ibc_world_core.specs.WorldAudits.{balances_of}
 use Rattle.ibc_script.specs.declared.script.Step.{Step}
 use Rattle.ibc_script.specs.declared.script.Step.TheVariants as step
@@ -19,7 +20,7 @@ use Rattle.ibc_node.specs.declared.node.Node.{Node}
 use Rattle.ibc_node.specs.Nodes.{node_end, node_world}
 use Rattle.ibc_node_lines.specs.declared.request.NodeQuestion.{NodeQuestion}
 use Rattle.ibc_node_lines.specs.declared.request.NodeQuestion.TheVariants as question
-use Rattle.ibc_node_lines.specs.OtherLines.{balances_text, entries_text, found_text, named_list, totals_text, IsUnansweredText}
+use Rattle.ibc_node_lines.specs.OtherLines.{balances_text, entries_text, found_text, item_text, named_list, totals_text, IsUnansweredText}
 use Rattle.ibc_node_lines.specs.Told.{joined}
 
 -- the question that a step is which only looks at what chains have, or the step, where it is another
@@ -74,14 +75,31 @@ plan_text messages = named_list (codes "plan") (joined (map message_text message
 abbrev pub plan_of : WorldState → ℕ → ℕ → Text
 plan_of world from to = plan_text (plans_of (slice_get world.ledgers from) (slice_get world.ledgers to)).0
 
--- What a question is answered of a node. Of roots, and of entries as the journal has them, nothing is said.
+-- the texts of entries as the journal has them, of which the first has this place
+abbrev pub item_texts : ℕ → List JournalItem → List Text
+item_texts place [] = []
+item_texts place (it ∷ items) = item_text place it ∷ item_texts (place + 1) items
+
+-- entries from a place on are told
+abbrev pub IsKeptText : ℕ → Text → Type 0
+IsKeptText from text = (items : List JournalItem) × (text ≡ named_list (codes "kept") (joined (item_texts from items)))
+
+-- a root is told, or that there is none
+abbrev pub IsRootText : Text → Type 0
+IsRootText text = (root : Option Text) × (text ≡ found_text (codes "root") root)
+
+-- What a question is answered, where the world keeps so many entries. Which root, and which entries the journal has, isn't said.
+abbrev pub AnswersIn : WorldState → ℕ → NodeQuestion → Text → Type 0
+AnswersIn world count question.Entries text = text ≡ entries_text count
+AnswersIn world count (question.Kept from) text = IsKeptText from text
+AnswersIn world count (question.Balances chain) text = text ≡ holdings_of world chain
+AnswersIn world count (question.Standing chain k) text = text ≡ found_text (codes "value") (by_ledger (value_in k) world chain)
+AnswersIn world count (question.Root chain height) text = IsRootText text
+AnswersIn world count (question.Proof chain height k) text = IsProofText (by_ledger (proof_in height k) world chain) text
+AnswersIn world count (question.Totals chain channel denom) text =
+    (totals : Result Totals Refusal) × TellsTotals world chain channel denom totals × IsTotalsText totals text
+AnswersIn world count (question.Plan from to) text = text ≡ plan_of world from to
+
+-- what it is answered of a node
 abbrev pub AnswersQuestion : {S : Type 0} → Node S → NodeQuestion → Text → Type 0
-AnswersQuestion node question.Entries text = text ≡ entries_text (node_end node).place
-AnswersQuestion node (question.Kept from) text = ⊤
-AnswersQuestion node (question.Balances chain) text = text ≡ holdings_of (node_world node) chain
-AnswersQuestion node (question.Standing chain k) text = text ≡ found_text (codes "value") (by_ledger (value_in k) (node_world node) chain)
-AnswersQuestion node (question.Root chain height) text = ⊤
-AnswersQuestion node (question.Proof chain height k) text = IsProofText (by_ledger (proof_in height k) (node_world node) chain) text
-AnswersQuestion node (question.Totals chain channel denom) text =
-    (totals : Result Totals Refusal) × TellsTotals (node_world node) chain channel denom totals × IsTotalsText totals text
-AnswersQuestion node (question.Plan from to) text = text ≡ plan_of (node_world node) from to
+AnswersQuestion node asked text = AnswersIn (node_world node) (node_end node).place asked text

@@ -1,21 +1,24 @@
 //! What is told of a node without asking its world for anything.
 
-ghost use Rattle.std.specs.Prelude.{◌≡◌, ◌&&◌, map, string_bytes, is_ok, Some, IfErr, IfOk, IsOkAnd, OnOk};
+ghost use Rattle.std.specs.Prelude.{◌≡◌, ◌++◌, ◌∷◌, ◌&&◌, [], List, codes, map, string_bytes, is_ok, None, Some, IfErr, IfOk, IsOkAnd, OnOk};
 ghost use Rattle.sqlite.specs.Held.{state};
 ghost use Rattle.hex.specs.Hex.{encode_lower};
+ghost use Rattle.ibc_journal.specs.Tables.{JournalItem};
+ghost use Rattle.ibc_journal.specs.Entries.{item};
 ghost use Rattle.ibc_script_cli.specs.Completing.{IsEncoding};
 ghost use Rattle.ibc_script_cli.specs.Balances.{holding_of};
 ghost use Rattle.ibc_node.specs.Nodes.{node_end, node_world};
 ghost use Rattle.ibc_node_lines.specs.Desks.{IsOnlyRead};
-ghost use Rattle.ibc_node_lines.specs.OtherLines.{balances_text, entries_text, found_text};
-ghost use Rattle.ibc_node_lines.specs.QuestionAnswers.{has_chains_of, holdings_of, is_chain_of, message_text, plan_of, plan_text, question_of_step, quoted_text, AnswersQuestion, IsProofText, IsTotalsText};
+ghost use Rattle.ibc_node_lines.specs.OtherLines.{balances_text, entries_text, found_text, item_text};
+ghost use Rattle.ibc_node_lines.specs.QuestionAnswers.{has_chains_of, holdings_of, is_chain_of, item_texts, message_text, plan_of, plan_text, question_of_step, quoted_text, AnswersQuestion, IsKeptText, IsProofText, IsRootText, IsTotalsText};
 
 use crate::request::NodeQuestion;
 use crate::{Desk, LineFault, answers};
 use hex::encode as encode_hex;
-use ibc_ids::{Account, Bytes, Denom, Refusal};
+use ibc_ids::{Account, Bytes, Denom, Refusal, Root};
 use ibc_machine::Totals;
 use ibc_merkle::Proof;
+use ibc_journal::JournalEntry;
 use ibc_message_codec::encode as encode_message;
 use ibc_node::NodeFault;
 use ibc_script::Step;
@@ -163,11 +166,25 @@ fn tell_root<S: Alter + Drop>(
     desk: &Desk<S>,
     chain: u8,
     height: u64,
-) -> Result<String, NodeFault> {
-    let block = desk.block(chain, height);
-    let root = block.map(|block| block.root);
-    let bytes = root.as_ref().map(|root| root.bytes().as_slice());
-    Ok(answers::found(alloc, "root", bytes)?)
+) -> Result<String, NodeFault>
+    ensures { IfOk result (λ text. IsRootText (string_bytes text)) }
+{
+    match desk.block(chain, height) {
+        Some(block) => root_found(alloc, &block.root),
+        None => no_root(alloc),
+    }
+}
+
+fn root_found(alloc: Global, root: &Root) -> Result<String, NodeFault>
+    ensures { IfOk result (λ text. string_bytes text ≡ found_text (codes "root") (Some root.now)) }
+{
+    Ok(answers::found(alloc, "root", Some(root.bytes().as_slice()))?)
+}
+
+fn no_root(alloc: Global) -> Result<String, NodeFault>
+    ensures { IfOk result (λ text. string_bytes text ≡ found_text (codes "root") None) }
+{
+    Ok(answers::found(alloc, "root", None)?)
 }
 
 // What a channel has, or why there is no answer.
@@ -331,7 +348,8 @@ fn tell_kept<S: Alter + Drop>(
     desk: &mut Desk<S>,
     from: u32,
 ) -> Result<String, NodeFault>
-    ensures { OnOk result (IsOnlyRead (state S.Store) desk.old.node desk.new.node) }
+    ensures read { OnOk result (IsOnlyRead (state S.Store) desk.old.node desk.new.node) }
+    ensures kept { IfOk result (λ text. IsKeptText from (string_bytes text)) }
 {
     let texts = kept_texts(alloc, desk, from)?;
     Ok(answers::list(alloc, "kept", texts.as_slice())?)
@@ -343,18 +361,29 @@ fn kept_texts<S: Alter + Drop>(
     desk: &mut Desk<S>,
     from: u32,
 ) -> Result<Vec<String>, NodeFault>
-    ensures { OnOk result (IsOnlyRead (state S.Store) desk.old.node desk.new.node) }
+    ensures read { OnOk result (IsOnlyRead (state S.Store) desk.old.node desk.new.node) }
+    ensures kept { IfOk result (λ texts. (items : List JournalItem) × (map string_bytes texts.items ≡ item_texts from items)) }
 {
     let mut texts = Vec::new(alloc);
     'places: for place in from..from.saturating_add(MOST_KEPT) {
         match desk.node.entry_at(place)? {
-            Some(entry) => {
-                let text = answers::kept(alloc, place, &entry);
-                drop(entry);
-                texts.push(text?)?;
-            }
+            Some(entry) => add_kept(alloc, &mut texts, place, entry)?,
             None => return Ok(texts),
         }
     }
     Ok(texts)
+}
+
+// Adds the text of an entry at a place.
+fn add_kept(
+    alloc: Global,
+    texts: &mut Vec<String>,
+    place: u32,
+    entry: JournalEntry,
+) -> Result<(), NodeFault>
+    ensures { OnOk result (map string_bytes texts.new.items ≡ map string_bytes texts.old.items ++ item_text place (item entry) ∷ []) }
+{
+    let text = answers::kept(alloc, place, &entry)?;
+    texts.push(text)?;
+    Ok(())
 }

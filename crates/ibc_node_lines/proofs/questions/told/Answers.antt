@@ -7,7 +7,7 @@ use Rattle.ibc_node.specs.Nodes.{node_world}
 use Rattle.ibc_node_lines.specs.declared.request.NodeQuestion.{NodeQuestion}
 use Rattle.ibc_node_lines.specs.OtherLines.{found_text}
 use Rattle.ibc_node_lines.specs.QuestionAnswers.{AnswersQuestion, IsProofText}
-use Rattle.ibc_node_lines.proofs.Asked.{both_of, told_anything}
+use Rattle.ibc_node_lines.proofs.Asked.{both_of}
 use Rattle.ibc_node_lines.proofs.questions.told.Goals as goal
 
 pub returns-in-Entries-clause-answers : goal.returns-in-Entries-clause-answers
@@ -17,7 +17,7 @@ returns-in-Entries-clause-answers g c =
 
 pub returns-in-Kept-clause-answers : goal.returns-in-Kept-clause-answers
 returns-in-Kept-clause-answers g c =
-    subst (λ (q : NodeQuestion). IfOk c.tell_kept.result (λ text. AnswersQuestion c.args.desk.now.node q (string_bytes text))) (sym c.in-Kept.is) (told_anything c.tell_kept.result)
+    subst (λ (q : NodeQuestion). IfOk c.tell_kept.result (λ text. AnswersQuestion c.args.desk.now.node q (string_bytes text))) (sym c.in-Kept.is) c.tell_kept.ensures.kept
 
 pub returns-in-Balances-clause-answers : goal.returns-in-Balances-clause-answers
 returns-in-Balances-clause-answers g c =
@@ -35,7 +35,7 @@ returns-in-Standing-clause-answers g c =
 pub returns-in-Root-clause-answers : goal.returns-in-Root-clause-answers
 returns-in-Root-clause-answers g c =
     let text = string_bytes c.in_ok-tell_root-in-Root.field-0 in
-    subst (λ (q : NodeQuestion). AnswersQuestion c.args.desk.now.node q text) (sym c.in-Root.is) tt
+    subst (λ (q : NodeQuestion). AnswersQuestion c.args.desk.now.node q text) (sym c.in-Root.is) c.in_ok-tell_root-in-Root.ensures
 
 pub returns-in-Proof-clause-answers : goal.returns-in-Proof-clause-answers
 returns-in-Proof-clause-answers g c =
