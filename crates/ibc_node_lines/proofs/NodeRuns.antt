@@ -14,7 +14,8 @@ use Rattle.ibc_node.specs.Audits.{IsAuditOfJournal, IsLawfulJournal, FindsLawful
 use Rattle.ibc_node.specs.Nodes.{node_genesis, node_journal, node_waiting, with_waiting, IsGiven, GoesOnWith, HasJournal, HasKept, HasAll}
 use Rattle.ibc_node_lines.specs.Audited.{TellsLawful}
 use Rattle.ibc_node_lines.specs.OtherLines.{lawful_text}
-use Rattle.ibc_node_lines.specs.Told.{resumed_text, HasTold}
+use Rattle.ibc_node_lines.specs.Sessions.{HasTold}
+use Rattle.ibc_node_lines.specs.Told.{resumed_text}
 use Rattle.ibc_node_lines.specs.Runs.{HasServed, HasAudited}
 
 pub has_served : {S E : Type 0} (shows : Held S → State) (genesis : Option (List ℕ)) (text : List ℕ) (items : List JournalItem) (start : Node S) (r : Result (Node S) E) (before after : Option Text)
@@ -38,6 +39,7 @@ has_served shows genesis text items start (Ok node) before after opened given ow
       texts = told.texts;
       written = subst (λ n. Appends before after (resumed_text n told.log_place ++ told.text)) began.0.beside.read.1 told.written;
       answers = told.tells.told text items began.1 kept clean tt;
+      fair = told.fair;
       grown = told.tells.stays.grown;
       genesis_is = told.tells.stays.genesis ∙ own calm;
       all = all began.1 kept clean;

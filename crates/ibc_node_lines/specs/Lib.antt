@@ -5,3 +5,4 @@ pub mod Told
 pub mod Runs
 pub mod QuestionAnswers
 pub mod Requests
+pub mod Sessions

@@ -2,10 +2,7 @@
 use Rattle.std.specs.Prelude.{◌≡◌, ◌++◌, ◌==◌, ℕ, Bool, true, false, codes, List, [], ◌∷◌, length, Option, None, Some, string_bytes, if◌then◌else◌}
 use Rattle.std.specs.Fmt.{decimal}
 use Rattle.std.specs.List.{AllZip, concat, flat_map}
-use Rattle.std.specs.Io.KnownBytes.{Appends}
 use Rattle.hex.specs.Hex.{encode_lower}
-use Rattle.sqlite.specs.State.{State}
-use Rattle.sqlite.specs.Held.{Held}
 use Rattle.ibc_ids.specs.Texts.{Text}
 use Rattle.ibc_ids.specs.Refusals.{number_of}
 use Rattle.ibc_ids.specs.declared.refusal.Refusal.{Refusal}
@@ -14,8 +11,6 @@ use Rattle.ibc_machine.specs.declared.reply.Effect.TheVariants as effect
 use Rattle.ibc_machine.specs.declared.reply.Reply.{Reply}
 use Rattle.ibc_machine.specs.declared.reply.Reply.TheVariants as reply
 use Rattle.ibc_node.specs.declared.node.KeptAnswer.{KeptAnswer}
-use Rattle.ibc_node.specs.declared.node.Node.{Node}
-use Rattle.ibc_node.specs.Nodes.{TellsOn, node_end}
 use Rattle.ibc_node_lines.specs.declared.lines.NodeLine.{NodeLine}
 use Rattle.ibc_node_lines.specs.declared.lines.NodeLine.TheVariants as line
 
@@ -113,34 +108,3 @@ AreLinesText lines text = (texts : List Text) × AllZip IsLineText lines texts �
 -- the first line: how many entries there are, and the last place of a log
 abbrev pub resumed_text : ℕ → ℕ → Text
 resumed_text entries log_place = codes "{\"resumed\":{\"entries\":" ++ (decimal entries ++ (codes ",\"at\":" ++ (decimal log_place ++ codes "}}\n")))
-
--- ---- what is written
-
--- these lines are written, in their order, and nothing else
-abbrev pub HasWritten : List NodeLine → Option Text → Option Text → Type 0
-HasWritten lines before after = (text : Text) × AreLinesText lines text × Appends before after text
-
--- a line more waits behind the others, or none
-abbrev pub HasOneMore : Bool → List NodeLine → List NodeLine → Type 0
-HasOneMore true old new = (told : NodeLine) × (new ≡ old ++ told ∷ [])
-HasOneMore false old new = new ≡ old
-
--- Lines are written, and others wait. Together they are those that waited, in their order, and perhaps more behind them.
--- What they tell is of what the world keeps, where so it was with what waited.
-pub record ServesOn {S : Type 0} (shows : Held S → State) (old : Node S) (waited : List NodeLine) (before : Option Text) (new : Node S) (waiting : List NodeLine) (after : Option Text) : Type 0 where
-  pub lines : List NodeLine
-  pub text : Text
-  pub texts : AreLinesText lines text
-  pub written : Appends before after text
-  pub more : List NodeLine
-  pub order : lines ++ waiting ≡ waited ++ more
-  pub tells : TellsOn shows old (answers_in waited) new (answers_in (lines ++ waiting))
-
--- The first line is written, and then lines. What they tell of events is of what the world keeps.
-pub record HasTold {S : Type 0} (shows : Held S → State) (old : Node S) (before : Option Text) (new : Node S) (after : Option Text) : Type 0 where
-  pub log_place : ℕ
-  pub lines : List NodeLine
-  pub text : Text
-  pub texts : AreLinesText lines text
-  pub written : Appends before after (resumed_text (node_end old).place log_place ++ text)
-  pub tells : TellsOn shows old [] new (answers_in lines)

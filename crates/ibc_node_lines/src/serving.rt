@@ -8,7 +8,8 @@ ghost use Rattle.ibc_journal.specs.Tables.{JournalItem};
 ghost use Rattle.ibc_node.specs.Nodes.{node_end, node_journal, node_waiting, with_waiting, HasJournal, HasKept, HasAll, TellsOn};
 ghost use Rattle.ibc_node_lines.specs.Desks.{IsOnlyRead, RunsStep, TellsEvent};
 ghost use Rattle.ibc_node_lines.specs.OtherLines.{IsMistakenLine};
-ghost use Rattle.ibc_node_lines.specs.Told.{answers_in, answers_of, resumed_text, HasOneMore, HasTold, HasWritten, ServesOn};
+ghost use Rattle.ibc_node_lines.specs.Sessions.{HasOneMore, HasTold, HasWritten, IsFairLine, ServesOn};
+ghost use Rattle.ibc_node_lines.specs.Told.{answers_in, answers_of, resumed_text};
 
 use crate::answers::{mistaken, resumed};
 use crate::lines::lines_text;
@@ -229,6 +230,7 @@ impl<S: Alter + Drop> Server<S> {
     fn line_for(&mut self, line: &[u8]) -> Result<NodeLine, NodeFault>
         ensures answers { IfOk result (λ told. TellsOn (state S.Store) self.old.desk.node [] self.new.desk.node (answers_of told)) }
         ensures told { self.new.told.items ≡ self.old.told.items }
+        ensures fair { IfOk result IsFairLine }
     {
         match read_request(self.alloc, &self.steps, line) {
             Ok(request) => self.line_of(request),
@@ -240,6 +242,7 @@ impl<S: Alter + Drop> Server<S> {
     fn line_of(&mut self, request: NodeRequest) -> Result<NodeLine, NodeFault>
         ensures answers { IfOk result (λ told. TellsOn (state S.Store) self.old.desk.node [] self.new.desk.node (answers_of told)) }
         ensures told { self.new.told.items ≡ self.old.told.items }
+        ensures fair { IfOk result IsFairLine }
     {
         match request {
             NodeRequest::Do { log_place, asked } => self.act(log_place, asked),
@@ -251,6 +254,7 @@ impl<S: Alter + Drop> Server<S> {
     fn act(&mut self, log_place: u32, asked: NodeAction) -> Result<NodeLine, NodeFault>
         ensures answers { IfOk result (λ told. TellsOn (state S.Store) self.old.desk.node [] self.new.desk.node (answers_of told)) }
         ensures told { self.new.told.items ≡ self.old.told.items }
+        ensures fair { IfOk result IsFairLine }
     {
         if self.has_come(log_place) {
             drop(asked);
@@ -271,6 +275,7 @@ impl<S: Alter + Drop> Server<S> {
     fn again(&mut self, log_place: u32) -> Result<NodeLine, NodeFault>
         ensures answers { IfOk result (λ told. TellsOn (state S.Store) self.old.desk.node [] self.new.desk.node (answers_of told)) }
         ensures told { self.new.told.items ≡ self.old.told.items }
+        ensures fair { IfOk result IsFairLine }
     {
         Ok(NodeLine::Answers(self.desk.node.again(log_place)?))
     }
@@ -281,6 +286,7 @@ impl<S: Alter + Drop> Server<S> {
         ensures asked { (text : List ℕ) (items : List JournalItem) → HasKept text items self.old.desk.node
             → IfOk result (λ told. TellsEvent log_place text items self.old.desk.node event (answers_of told) self.new.desk.node) }
         ensures told { self.new.told.items ≡ self.old.told.items }
+        ensures fair { IfOk result IsFairLine }
     {
         Ok(NodeLine::Answers(self.desk.take(log_place, event)?))
     }
@@ -289,6 +295,7 @@ impl<S: Alter + Drop> Server<S> {
     fn act_step(&mut self, log_place: u32, step: Step) -> Result<NodeLine, NodeFault>
         ensures answers { IfOk result (λ told. TellsOn (state S.Store) self.old.desk.node [] self.new.desk.node (answers_of told)) }
         ensures told { self.new.told.items ≡ self.old.told.items }
+        ensures fair { IfOk result IsFairLine }
     {
         match question_of(step) {
             Ok(question) => self.tell(question),
@@ -301,6 +308,7 @@ impl<S: Alter + Drop> Server<S> {
         ensures answers { IfOk result (λ told. TellsOn (state S.Store) self.old.desk.node [] self.new.desk.node (answers_of told)) }
         ensures ran { IfOk result (λ told. RunsStep (state S.Store) self.old.names.items log_place step self.old.desk.node (answers_of told) self.new.desk.node) }
         ensures told { self.new.told.items ≡ self.old.told.items }
+        ensures fair { IfOk result IsFairLine }
     {
         Ok(NodeLine::Answers(self.desk.act(self.names.as_slice(), log_place, step)?))
     }
@@ -310,6 +318,7 @@ impl<S: Alter + Drop> Server<S> {
         ensures answers { IfOk result (λ told. TellsOn (state S.Store) self.old.desk.node [] self.new.desk.node (answers_of told)) }
         ensures read { OnOk result (IsOnlyRead (state S.Store) self.old.desk.node self.new.desk.node) }
         ensures told { self.new.told.items ≡ self.old.told.items }
+        ensures fair { IfOk result IsFairLine }
     {
         let text = tell(self.alloc, &mut self.desk, question)?;
         self.other(text)

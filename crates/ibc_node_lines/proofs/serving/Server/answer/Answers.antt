@@ -7,7 +7,7 @@ use Rattle.ibc_node_lines.proofs.serving.Server.answer.Goals as goal
 pub returns-clause-line : goal.returns-clause-line
 returns-clause-line g c =
     let line = c.in_ok-told.told in
-    (line, c.in_ok-push.ensures.items ∙ ap (λ l. l ++ line ∷ []) c.line_for.ensures.told)
+    (line, c.in_ok-told.ensures.fair, c.in_ok-push.ensures.items ∙ ap (λ l. l ++ line ∷ []) c.line_for.ensures.told)
 
 pub returns-clause-tells : goal.returns-clause-tells
 returns-clause-tells g c =

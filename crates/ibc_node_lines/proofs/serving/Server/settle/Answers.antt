@@ -32,6 +32,7 @@ returns-clause-serves g c =
       written = written.2;
       more = [];
       order = ap (λ l. told ++ l) c.clear.ensures.items;
+      fair = tt;
       tells = subst (λ l. TellsOn shows old (answers_in told) new (answers_in l)) (sym (ap (λ l. told ++ l) c.clear.ensures.items ∙ append-nil told))
           (tells_same shows old new (answers_in told) c.in_ok-settle.ensures.keeps);
     }
