@@ -1,5 +1,5 @@
 -- How the telling of what an audit found ends, and what is written.
-use Rattle.std.specs.Prelude.{◌≡◌, Option, Result, Err, ⊤}
+use Rattle.std.specs.Prelude.{◌≡◌, ℕ, Option, Result, Err, ⊤}
 use Rattle.std.specs.Io.KnownBytes.{Appends}
 use Rattle.ibc_ids.specs.Texts.{Text}
 use Rattle.ibc_replay.specs.declared.replaying.Difference.{Difference}
@@ -26,3 +26,7 @@ EndsAsFound (found.Differs why) told = told ≡ Err (fault_of why)
 abbrev pub TellsLawful : JournalAudit → Option Text → Option Text → Type 0
 TellsLawful (found.Lawful entries) before after = Appends before after (lawful_text entries)
 TellsLawful (found.Differs why) before after = ⊥
+
+-- a line was written that says of so many entries that they are a lawful run
+abbrev pub TellsSomeLawful : Option Text → Option Text → Type 0
+TellsSomeLawful before after = (entries : ℕ) × Appends before after (lawful_text entries)
