@@ -6,6 +6,7 @@ use Rattle.hex.specs.Hex.{encode_lower}
 use Rattle.ibc_ids.specs.Texts.{Text}
 use Rattle.ibc_ids.specs.Refusals.{number_of}
 use Rattle.ibc_ids.specs.declared.refusal.Refusal.{Refusal}
+use Rattle.ibc_ids.specs.declared.refusal.Refusal.TheVariants as refusal
 use Rattle.ibc_machine.specs.declared.reply.Effect.{Effect}
 use Rattle.ibc_machine.specs.declared.reply.Effect.TheVariants as effect
 use Rattle.ibc_machine.specs.declared.reply.Reply.{Reply}
@@ -41,17 +42,52 @@ effect_text (effect.Block height root) = block_text height (encode_lower root)
 abbrev pub ok_text : Text → Text
 ok_text given = codes "\"ok\":" ++ given
 
--- a refusal's number, and words that say why
+-- a number, and words
 abbrev pub refused_text : ℕ → Text → Text
 refused_text number why = codes "\"no\":" ++ (decimal number ++ (codes ",\"why\":\"" ++ (why ++ codes "\"")))
 
+-- the words that say why
+abbrev pub refusal_text : Refusal → Text
+refusal_text refusal.NoMemory = codes "no memory"
+refusal_text refusal.BadName = codes "bad name"
+refusal_text refusal.UnknownChain = codes "unknown chain"
+refusal_text refusal.OwnChain = codes "own chain"
+refusal_text refusal.UnknownClient = codes "unknown client"
+refusal_text refusal.NotPublished = codes "not published"
+refusal_text refusal.WrongHeader = codes "wrong header"
+refusal_text refusal.UnknownConnection = codes "unknown connection"
+refusal_text refusal.WrongState = codes "wrong state"
+refusal_text refusal.WrongPeer = codes "wrong peer"
+refusal_text refusal.NoConsensus = codes "no consensus state"
+refusal_text refusal.BadProof = codes "bad proof"
+refusal_text refusal.WrongSelfClient = codes "wrong self client"
+refusal_text refusal.UnknownPort = codes "unknown port"
+refusal_text refusal.UnknownChannel = codes "unknown channel"
+refusal_text refusal.WrongOrder = codes "wrong order"
+refusal_text refusal.WrongVersion = codes "wrong version"
+refusal_text refusal.NoTimeout = codes "no timeout"
+refusal_text refusal.TimeoutPassed = codes "timeout passed"
+refusal_text refusal.AlreadyReceived = codes "already received"
+refusal_text refusal.OutOfOrder = codes "out of order"
+refusal_text refusal.NoCommitment = codes "no commitment"
+refusal_text refusal.NotTimedOut = codes "not timed out"
+refusal_text refusal.TooLarge = codes "too large"
+refusal_text refusal.Poor = codes "poor"
+refusal_text refusal.CloseRefused = codes "close refused"
+refusal_text refusal.TimeBack = codes "time goes back"
+refusal_text refusal.TableFull = codes "table full"
+refusal_text refusal.NumberFull = codes "number full"
+refusal_text refusal.BadMessage = codes "bad message"
+refusal_text refusal.Pruned = codes "pruned"
+
+-- a refusal's number, and the words that say why
 abbrev pub IsRefusedText : Refusal → Text → Type 0
-IsRefusedText refusal text = (why : Text) × (text ≡ refused_text (number_of refusal) why)
+IsRefusedText why text = text ≡ refused_text (number_of why) (refusal_text why)
 
 -- a reply without the braces round it
 abbrev pub IsReplyText : Reply → Text → Type 0
 IsReplyText (reply.Ok given) text = text ≡ ok_text (effect_text given)
-IsReplyText (reply.No refusal) text = IsRefusedText refusal text
+IsReplyText (reply.No why) text = IsRefusedText why text
 
 -- ---- answers
 
