@@ -1,5 +1,9 @@
 //! How often each answer came.
 
+ghost use Rattle.std.specs.Prelude.{◌≡◌};
+ghost use Rattle.ibc_machine.specs.ledger.Ledgers.{chain_of};
+ghost use Rattle.ibc_sim.specs.Counts.{event_tag};
+
 use ibc_machine::{Event, Reply};
 use std::alloc::{AllocError, Global};
 
@@ -11,7 +15,9 @@ pub struct AnswerCounts {
 }
 
 /// The number of an event's chain.
-pub fn chain_of(event: &Event) -> u8 {
+pub fn chain_of(event: &Event) -> u8
+    ensures { result ≡ chain_of event.now }
+{
     match event {
         Event::Message { chain, .. } => *chain,
         Event::Block { chain, .. } => *chain,
@@ -19,7 +25,9 @@ pub fn chain_of(event: &Event) -> u8 {
 }
 
 /// The tag of an event's message, 0 for a block.
-pub fn tag_of(event: &Event) -> u8 {
+pub fn tag_of(event: &Event) -> u8
+    ensures { result ≡ event_tag event.now }
+{
     match event {
         Event::Message { message, .. } => message.kind().tag(),
         Event::Block { .. } => 0,
