@@ -1,6 +1,6 @@
 //! A script that breaks a law is made shorter, while it still does.
 
-ghost use Rattle.std.specs.Prelude.{◌≡◌, ◌<◌, IfOk, IsTrue, List, Bool, vec_len, ⊤};
+ghost use Rattle.std.specs.Prelude.{◌≡◌, ◌<◌, IfOk, IsTrue, List, Bool, count_by, replicate, true, vec_len, ⊤};
 ghost use Rattle.ibc_sim.specs.Shrinking.{KeepsNoMore, StillDo};
 
 use crate::running::replay;
@@ -56,7 +56,8 @@ struct StepRange {
 
 /// Whether each step is kept, where all are. Error: no memory.
 pub fn all_kept(alloc: Global, count: usize) -> Result<Vec<bool>, AllocError>
-    ensures { IfOk result (λ kept. vec_len kept ≡ count) }
+    ensures as_many { IfOk result (λ kept. vec_len kept ≡ count) }
+    ensures all { IfOk result (λ kept. kept.items ≡ replicate count true) }
 {
     let kept = vec![in alloc; true; count]?;
     Ok(kept)
@@ -172,7 +173,9 @@ fn has_kept(kept: &[bool], part: StepRange) -> bool {
 }
 
 /// How many steps are kept.
-pub fn kept_count(kept: &[bool]) -> usize {
+pub fn kept_count(kept: &[bool]) -> usize
+    ensures { result ≡ count_by (λ is_kept. is_kept) kept.now }
+{
     kept.iter().filter(|is_kept| **is_kept).count()
 }
 
