@@ -1,3 +1,5 @@
 pub mod Counts
 pub mod Draws
+pub mod ScriptTexts
+pub mod ShortScripts
 pub mod Shrinking
