@@ -3,3 +3,4 @@ pub mod Draws
 pub mod ScriptTexts
 pub mod ShortScripts
 pub mod Shrinking
+pub mod Simulations
