@@ -1,2 +1,3 @@
+pub mod FirstFindings
 pub mod KeptSteps
 pub mod ScriptLines

@@ -1,5 +1,6 @@
 pub mod Counts
 pub mod Draws
+pub mod Findings
 pub mod Flights
 pub mod ScriptTexts
 pub mod ShortScripts
