@@ -1,5 +1,8 @@
 //! What is drawn, from the top down.
 
+ghost use Rattle.std.specs.Prelude.{◌≡◌, ◌+◌, ◌-◌, ◌^◌, find, min, option_map, reverse, unwrap_or};
+ghost use Rattle.ibc_drawing.specs.Ticks.{is_tick};
+
 use crate::escaped::write_escaped;
 use crate::lanes::lane_x;
 use crate::packets::DrawnPackets;
@@ -103,8 +106,10 @@ impl Canvas<'_> {
         }
     }
 
-    /// Goes down.
-    pub fn down(&mut self, by: usize) {
+    /// Goes down, and draws nothing.
+    pub fn down(&mut self, by: usize)
+        ensures { self.new ≡ record self.old { y = min (self.old.y + by) (2 ^ 64 - 1) } }
+    {
         self.y = self.y.saturating_add(by);
     }
 
@@ -221,12 +226,27 @@ impl Canvas<'_> {
     }
 
     /// How far down a block of a chain ends; where that isn't known, where the picture is.
-    pub fn y_of(&self, chain: u8, height: u64) -> usize {
-        for tick in self.ticks.iter().rev() {
-            if tick.chain == chain && tick.height == height {
-                return tick.y;
-            }
-        }
-        self.y
+    pub fn y_of(&self, chain: u8, height: u64) -> usize
+        ensures { result ≡ unwrap_or (option_map (λ tick. tick.y) (find (is_tick chain height) (reverse self.now.ticks.items))) self.now.y }
+    {
+        y_of_tick(self.ticks.as_slice(), chain, height, self.y)
     }
+}
+
+// How far down the last tick of a chain and a height stands, or where there is none.
+fn y_of_tick(ticks: &[Tick], chain: u8, height: u64, otherwise: usize) -> usize
+    ensures { result ≡ unwrap_or (option_map (λ tick. tick.y) (find (is_tick chain height) (reverse ticks.now))) otherwise }
+{
+    ticks
+        .iter()
+        .rev()
+        .find(|tick| is_tick(tick, chain, height))
+        .map_or(otherwise, |tick| tick.y)
+}
+
+// Whether a tick is that of a chain and a height.
+fn is_tick(tick: &Tick, chain: u8, height: u64) -> bool
+    ensures { result ≡ is_tick chain height tick.now }
+{
+    tick.chain == chain && tick.height == height
 }

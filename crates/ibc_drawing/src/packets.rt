@@ -1,5 +1,7 @@
 //! The packets of a picture.
 
+ghost use Rattle.std.specs.Prelude.{◌≡◌, ◌%◌, ◌*◌, ◌+◌, ◌<◌};
+
 use ibc_explain::Explanation;
 use std::alloc::AllocError;
 
@@ -43,7 +45,10 @@ impl<'e> PacketKey<'e> {
     }
 
     /// The number of the packet's colour.
-    pub fn colour(&self) -> usize {
+    pub fn colour(&self) -> usize
+        ensures one { result < COLOURS }
+        ensures value { result ≡ (self.now.chain * 3 + self.now.sequence % COLOURS) % COLOURS }
+    {
         let first = usize::from(self.chain) * 3;
         let behind = (self.sequence % COLOURS as u64) as usize;
         (first + behind) % COLOURS
