@@ -1,7 +1,7 @@
 //! What is drawn, from the top down.
 
-ghost use Rattle.std.specs.Prelude.{◌≡◌, ◌+◌, ◌-◌, ◌^◌, find, min, option_map, reverse, unwrap_or};
-ghost use Rattle.ibc_drawing.specs.Ticks.{is_tick};
+ghost use Rattle.std.specs.Prelude.{◌≡◌, ◌++◌, ◌+◌, ◌-◌, ◌^◌, ◌∷◌, [], OnOk, find, min, option_map, reverse, unwrap_or};
+ghost use Rattle.ibc_drawing.specs.Ticks.{is_tick, new_tick};
 
 use crate::escaped::write_escaped;
 use crate::lanes::lane_x;
@@ -193,8 +193,11 @@ impl Canvas<'_> {
         }
     }
 
-    /// The end of a block.
-    pub fn tick(&mut self, chain: u8, height: u64) -> Result<(), AllocError> {
+    /// The end of a block. What comes next stands behind it.
+    pub fn tick(&mut self, chain: u8, height: u64) -> Result<(), AllocError>
+        ensures ticks { OnOk result (self.new.ticks.items ≡ self.old.ticks.items ++ new_tick chain height self.old.y ∷ []) }
+        ensures y { OnOk result (self.new.y ≡ min (self.old.y + TICK_ROW) (2 ^ 64 - 1)) }
+    {
         let y = self.y;
         self.ticks.push(Tick { chain, height, y })?;
         let x = lane_x(chain);

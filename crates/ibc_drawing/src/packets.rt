@@ -1,6 +1,7 @@
 //! The packets of a picture.
 
-ghost use Rattle.std.specs.Prelude.{◌≡◌, ◌%◌, ◌*◌, ◌+◌, ◌<◌};
+ghost use Rattle.std.specs.Prelude.{◌≡◌, ◌%◌, ◌*◌, ◌++◌, ◌+◌, ◌<◌, ◌∷◌, [], OnOk};
+ghost use Rattle.ibc_drawing.specs.Packets.{sent_packet};
 
 use ibc_explain::Explanation;
 use std::alloc::AllocError;
@@ -67,7 +68,9 @@ impl<'e> DrawnPackets<'e> {
     }
 
     /// A packet is sent.
-    pub fn send(&mut self, key: PacketKey<'e>, y: usize) -> Result<(), AllocError> {
+    pub fn send(&mut self, key: PacketKey<'e>, y: usize) -> Result<(), AllocError>
+        ensures { OnOk result (self.new.met.items ≡ self.old.met.items ++ sent_packet key.entry y ∷ []) }
+    {
         self.met.push(DrawnPacket {
             key,
             sent: y,
