@@ -1,6 +1,8 @@
 //! A script that breaks a law is made shorter, while it still does.
 
-ghost use Rattle.std.specs.Prelude.{◌≡◌, ◌<◌, IfOk, IsTrue, List, Bool, count_by, replicate, true, vec_len, ⊤};
+ghost use Rattle.std.specs.Prelude.{◌≡◌, ◌<◌, IfOk, IsTrue, List, Bool, count_by, map, replicate, string_bytes, true, vec_len, ⊤};
+ghost use Rattle.ibc_sim.specs.ReadScripts.{IsScript};
+ghost use Rattle.ibc_sim.specs.ScriptTexts.{kept_steps, script_of};
 ghost use Rattle.ibc_sim.specs.Shrinking.{KeepsNoMore, StillDo};
 
 use crate::running::replay;
@@ -32,11 +34,13 @@ pub struct Broken<'s> {
 }
 
 impl Breaks for Broken<'_> {
+    // Those that are kept are a script with the same beginning.
+    ghost does = { λ broken kept. IsScript (script_of broken.head.now (kept_steps kept (map string_bytes broken.steps.now))) };
+
     fn still_breaks(&self, kept: &[bool]) -> Result<bool, Fault> {
         let text = script_text(self.alloc, self.head, self.steps, kept)?;
-        let found = replay(self.alloc, text.as_bytes());
-        drop(text);
-        match found? {
+        let found = replay(self.alloc, text.as_bytes())?;
+        match found {
             Some(found) => {
                 let is_same = found.law == self.law;
                 drop(found);
