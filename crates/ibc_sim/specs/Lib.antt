@@ -2,6 +2,7 @@ pub mod Counts
 pub mod Draws
 pub mod Findings
 pub mod Flights
+pub mod KnownEnds
 pub mod ReadScripts
 pub mod ScriptTexts
 pub mod ShortScripts
