@@ -11,5 +11,5 @@ entity c =
     else None
 
 -- the bytes of a character, so that XML has it as text
-abbrev pub escaped : ℕ → List ℕ
-escaped c = unwrap_or (entity c) (encode_utf8 c)
+abbrev pub escaped_bytes : ℕ → List ℕ
+escaped_bytes c = unwrap_or (entity c) (encode_utf8 c)
