@@ -1,5 +1,5 @@
 -- Texts inside of XML (XML 1.0, section 2.4).
-use Rattle.std.specs.Prelude.{ℕ, ◌==◌, List, Option, Some, None, codes, encode_utf8, if◌then◌else◌, unwrap_or}
+use Rattle.std.specs.Prelude.{ℕ, ◌==◌, List, Option, Some, None, chars, codes, encode_utf8, flat_map, if◌then◌else◌, unwrap_or}
 
 -- what stands for a character that XML takes for its own: & and < anywhere, > for its twin, and " in attributes
 abbrev pub entity : ℕ → Option (List ℕ)
@@ -13,3 +13,7 @@ entity c =
 -- the bytes of a character, so that XML has it as text
 abbrev pub escaped_bytes : ℕ → List ℕ
 escaped_bytes c = unwrap_or (entity c) (encode_utf8 c)
+
+-- a text, so that XML has it as text
+abbrev pub escaped_text : List ℕ → List ℕ
+escaped_text text = flat_map escaped_bytes (chars text)

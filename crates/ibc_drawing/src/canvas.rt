@@ -1,7 +1,7 @@
 //! What is drawn, from the top down.
 
-ghost use Rattle.std.specs.Prelude.{◌≡◌, ◌++◌, ◌+◌, ◌-◌, ◌^◌, ◌∷◌, [], OnOk, find, min, option_map, reverse, unwrap_or};
-ghost use Rattle.ibc_drawing.specs.Ticks.{is_tick, new_tick};
+ghost use Rattle.std.specs.Prelude.{◌≡◌, ◌++◌, ◌+◌, ◌-◌, ◌^◌, ◌∷◌, [], OnOk, min};
+ghost use Rattle.ibc_drawing.specs.Ticks.{end_of_block, is_tick, new_tick};
 
 use crate::escaped::write_escaped;
 use crate::lanes::lane_x;
@@ -230,7 +230,7 @@ impl Canvas<'_> {
 
     /// How far down a block of a chain ends; where that isn't known, where the picture is.
     pub fn y_of(&self, chain: u8, height: u64) -> usize
-        ensures { result ≡ unwrap_or (option_map (λ tick. tick.y) (find (is_tick chain height) (reverse self.now.ticks.items))) self.now.y }
+        ensures { result ≡ end_of_block chain height self.now.ticks.items self.now.y }
     {
         y_of_tick(self.ticks.as_slice(), chain, height, self.y)
     }
@@ -238,7 +238,7 @@ impl Canvas<'_> {
 
 // How far down the last tick of a chain and a height stands, or where there is none.
 fn y_of_tick(ticks: &[Tick], chain: u8, height: u64, otherwise: usize) -> usize
-    ensures { result ≡ unwrap_or (option_map (λ tick. tick.y) (find (is_tick chain height) (reverse ticks.now))) otherwise }
+    ensures { result ≡ end_of_block chain height ticks.now otherwise }
 {
     ticks
         .iter()

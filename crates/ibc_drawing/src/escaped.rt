@@ -1,13 +1,13 @@
 //! Texts inside of XML.
 
-ghost use Rattle.std.specs.Prelude.{◌≡◌, ◌++◌, OnOk, chars, flat_map, option_map, string_bytes};
-ghost use Rattle.ibc_drawing.specs.Escaped.{entity, escaped_bytes};
+ghost use Rattle.std.specs.Prelude.{◌≡◌, ◌++◌, OnOk, option_map, string_bytes};
+ghost use Rattle.ibc_drawing.specs.Escaped.{entity, escaped_bytes, escaped_text};
 
 use std::alloc::AllocError;
 
 /// Writes a text so that XML has it as text.
 pub fn write_escaped(out: &mut String, text: &str) -> Result<(), AllocError>
-    ensures { OnOk result (string_bytes out.new ≡ string_bytes out.old ++ flat_map escaped_bytes (chars text.now)) }
+    ensures { OnOk result (string_bytes out.new ≡ string_bytes out.old ++ escaped_text text.now) }
 {
     for character in text.chars() {
         push_escaped(out, character)?;

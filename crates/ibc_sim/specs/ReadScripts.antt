@@ -3,5 +3,5 @@ use Rattle.ibc_ids.specs.Texts.{Text}
 use Rattle.ibc_script.specs.ScriptValues.{IsScriptText, ScriptContent}
 
 -- the text is a script's
-abbrev pub IsScript : Text → Type 0
-IsScript text = (content : ScriptContent) × IsScriptText text content
+abbrev pub ReadsAsScript : Text → Type 0
+ReadsAsScript text = (content : ScriptContent) × IsScriptText text content

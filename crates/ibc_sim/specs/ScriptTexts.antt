@@ -19,6 +19,10 @@ before_step first = if first then codes "\n" else codes ",\n"
 abbrev pub with_step : Bool → Text → Text
 with_step first step = before_step first ++ step
 
+-- nothing stands for a step that isn't kept
+abbrev pub line_if : Bool → Bool → Text → Text
+line_if keeps first step = if keeps then with_step first step else []
+
 abbrev pub step_lines : Bool → List Text → Text
 step_lines first [] = []
 step_lines first (step ∷ steps) = with_step first step ++ step_lines false steps

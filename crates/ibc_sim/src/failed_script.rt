@@ -1,8 +1,7 @@
 //! A script that breaks a law.
 
-ghost use Rattle.std.specs.Prelude.{◌≡◌, IfOk, map, string_bytes, vec_len};
-ghost use Rattle.ibc_sim.specs.ScriptTexts.{script_of};
-ghost use Rattle.ibc_sim.specs.ShortScripts.{IsShortened};
+ghost use Rattle.std.specs.Prelude.{◌≡◌, IfOk, string_bytes, vec_len};
+ghost use Rattle.ibc_sim.specs.ShortScripts.{IsShortened, whole_text};
 
 use crate::script_text::script_text;
 use crate::shrinking::{Broken, all_kept, kept_count, shrunk};
@@ -63,7 +62,7 @@ impl FailedScript {
 
     /// The script with all of its steps. Fault: `NoMemory`.
     pub fn whole(&self) -> Result<ShortScript, Fault>
-        ensures text { IfOk result (λ short. string_bytes short.text ≡ script_of (string_bytes self.now.head) (map string_bytes self.now.steps.items)) }
+        ensures text { IfOk result (λ short. string_bytes short.text ≡ whole_text self.now) }
         ensures steps { IfOk result (λ short. short.steps ≡ vec_len self.now.steps) }
     {
         let steps = self.steps.as_slice();
@@ -75,7 +74,7 @@ impl FailedScript {
 
     /// The script with those of its steps that suffice. Fault: `NoMemory`.
     pub fn shorter(&self) -> Result<ShortScript, Fault>
-        ensures { IfOk result (IsShortened (string_bytes self.now.head) (map string_bytes self.now.steps.items)) }
+        ensures { IfOk result (IsShortened self.now) }
     {
         let broken = Broken {
             alloc: self.alloc,
@@ -90,7 +89,7 @@ impl FailedScript {
 
     // The script with those of its steps that are kept. Fault: `NoMemory`.
     fn with_kept(&self, kept: &[bool]) -> Result<ShortScript, Fault>
-        ensures { IfOk result (IsShortened (string_bytes self.now.head) (map string_bytes self.now.steps.items)) }
+        ensures { IfOk result (IsShortened self.now) }
     {
         let steps = kept_count(kept);
         let text = script_text(self.alloc, self.head.as_str(), self.steps.as_slice(), kept)?;

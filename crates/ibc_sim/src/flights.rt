@@ -1,7 +1,7 @@
 //! Packets that aren't settled.
 
-ghost use Rattle.std.specs.Prelude.{◌≡◌, ◌==◌, ◌++◌, ◌∷◌, [], OnErr, OnOk, find, option_to_list, position};
-ghost use Rattle.ibc_sim.specs.Flights.{found_flight, is_flight, without_flight};
+ghost use Rattle.std.specs.Prelude.{◌≡◌, ◌==◌, ◌++◌, ◌∷◌, [], OnErr, OnOk, find, position};
+ghost use Rattle.ibc_sim.specs.Flights.{found_flight, is_flight, with_arrived, without_flight};
 
 use std::alloc::{AllocError, Global};
 
@@ -48,7 +48,7 @@ impl Flights {
     /// Notes that the packet of an end and a sequence was received, where it was on the way. Error: no memory.
     pub fn arrive(&mut self, end: usize, sequence: u64) -> Result<(), AllocError>
         ensures on_the_way { self.new.on_the_way.items ≡ without_flight end sequence self.old.on_the_way.items }
-        ensures received { OnOk result (self.new.received.items ≡ self.old.received.items ++ option_to_list (found_flight end sequence self.old.on_the_way.items)) }
+        ensures received { OnOk result (self.new.received.items ≡ with_arrived end sequence self.old.on_the_way.items self.old.received.items) }
     {
         match taken_out(&mut self.on_the_way, end, sequence) {
             Some(flight) => {

@@ -1,9 +1,8 @@
 //! What is noted of a run, event by event.
 
-ghost use Rattle.std.specs.Prelude.{◌≡◌, IfOk, IsSome, None, OnOk, true};
+ghost use Rattle.std.specs.Prelude.{◌≡◌, IfOk, IsSome, None, OnOk};
 ghost use Rattle.std.specs.Option.{option_or};
-ghost use Rattle.ibc_law_checks.specs.ToldEntries.{AreTokensTold, IsToldOf};
-ghost use Rattle.ibc_sim.specs.Findings.{KeepsFirst};
+ghost use Rattle.ibc_sim.specs.Findings.{KeepsToldOf, KeepsTokensTold};
 
 use crate::counts::AnswerCounts;
 use crate::flights::{Flight, Flights};
@@ -99,7 +98,7 @@ impl RunNotes {
 
     // Looks at an entry of a chain, which has just come.
     fn look_at(&mut self, world: &World, chain: u8, entry: &Entry) -> Result<(), Refusal>
-        ensures told { OnOk result (KeepsFirst (IsToldOf world.now self.old.checks.places.items self.old.checks.supplies.items entry.now.event entry.now.reply) self.old.finding self.new.finding) }
+        ensures told { OnOk result (KeepsToldOf world.now entry.now self.old self.new.finding) }
         ensures first { OnOk result (IsSome self.old.finding → self.new.finding ≡ self.old.finding) }
     {
         let found = self.checks.look(world, chain, entry)?;
@@ -135,7 +134,7 @@ impl RunNotes {
 
     /// Looks at all that can be looked at now. What was found before stays. Refused: `NoMemory`.
     pub fn look_at_all(&mut self, world: &World) -> Result<(), Refusal>
-        ensures { OnOk result (KeepsFirst (AreTokensTold world.now true self.old.checks.places.items self.old.checks.supplies.items) self.old.finding self.new.finding) }
+        ensures { OnOk result (KeepsTokensTold world.now self.old self.new.finding) }
     {
         let found = self.checks.look_at_all(world)?;
         self.keep(found);

@@ -1,7 +1,7 @@
 //! Scripts are run on chains that are looked at.
 
 ghost use Rattle.std.specs.Prelude.{OnOk};
-ghost use Rattle.ibc_sim.specs.ReadScripts.{IsScript};
+ghost use Rattle.ibc_sim.specs.ReadScripts.{ReadsAsScript};
 
 use crate::checked::Checked;
 use crate::run_notes::RunNotes;
@@ -41,7 +41,7 @@ pub fn take_steps(alloc: Global, chains: &mut Checked, steps: Vec<Step>) -> Resu
 /// What is found where a script is run, looked at after each event and once more at the end; none where no law is broken.
 /// Faults: `BadScript`, `NoMemory`.
 pub fn replay(alloc: Global, text: &[u8]) -> Result<Option<Finding>, Fault>
-    ensures { OnOk result (IsScript text.now) }
+    ensures { OnOk result (ReadsAsScript text.now) }
 {
     let script = read_script(alloc, text)?;
     let mut chains = begin(alloc, &script)?;

@@ -1,7 +1,7 @@
 //! Random scripts as texts.
 
-ghost use Rattle.std.specs.Prelude.{◌≡◌, ◌++◌, [], IfOk, OnOk, if◌then◌else◌, false, map, string_bytes};
-ghost use Rattle.ibc_sim.specs.ScriptTexts.{before_step, is_kept_at, kept_steps, script_of, with_step};
+ghost use Rattle.std.specs.Prelude.{◌≡◌, ◌++◌, IfOk, OnOk, if◌then◌else◌, false, map, string_bytes};
+ghost use Rattle.ibc_sim.specs.ScriptTexts.{before_step, is_kept_at, kept_steps, line_if, script_of, with_step};
 
 use crate::draws::Draws;
 use crate::names::{TOKENS, USERS, chain_name};
@@ -106,7 +106,7 @@ fn is_kept(kept: &[bool], place: usize) -> bool
 // Adds a step, if it is kept. The result is whether the next one is the first.
 fn add_if(text: &mut String, is_first: bool, keeps: bool, step: &str) -> Result<bool, AllocError>
     ensures first { IfOk result (λ first. first ≡ (if keeps then false else is_first)) }
-    ensures added { OnOk result (string_bytes text.new ≡ string_bytes text.old ++ (if keeps then with_step is_first step.now else [])) }
+    ensures added { OnOk result (string_bytes text.new ≡ string_bytes text.old ++ line_if keeps is_first step.now) }
 {
     if keeps {
         add_step(text, is_first, step)?;

@@ -1,7 +1,7 @@
 //! A script that breaks a law is made shorter, while it still does.
 
 ghost use Rattle.std.specs.Prelude.{◌≡◌, ◌<◌, IfOk, IsTrue, List, Bool, count_by, map, replicate, string_bytes, true, vec_len, ⊤};
-ghost use Rattle.ibc_sim.specs.ReadScripts.{IsScript};
+ghost use Rattle.ibc_sim.specs.ReadScripts.{ReadsAsScript};
 ghost use Rattle.ibc_sim.specs.ScriptTexts.{kept_steps, script_of};
 ghost use Rattle.ibc_sim.specs.Shrinking.{KeepsNoMore, StillDo};
 
@@ -35,7 +35,7 @@ pub struct Broken<'s> {
 
 impl Breaks for Broken<'_> {
     // Those that are kept are a script with the same beginning.
-    ghost does = { λ broken kept. IsScript (script_of broken.head.now (kept_steps kept (map string_bytes broken.steps.now))) };
+    ghost does = { λ broken kept. ReadsAsScript (script_of broken.head.now (kept_steps kept (map string_bytes broken.steps.now))) };
 
     fn still_breaks(&self, kept: &[bool]) -> Result<bool, Fault> {
         let text = script_text(self.alloc, self.head, self.steps, kept)?;

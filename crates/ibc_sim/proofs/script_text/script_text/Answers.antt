@@ -2,7 +2,7 @@
 use Rattle.std.proofs.Common.{◌<◌, ◌+◌, [], ◌++◌, Bool, true, false, List, length, drop, map, string_bytes, ap, ap₂, ◌∙◌, append_assoc, arith, codes}
 use Rattle.std.specs.Prelude.{if◌then◌else◌}
 use Rattle.ibc_ids.specs.Texts.{Text}
-use Rattle.ibc_sim.specs.ScriptTexts.{is_kept_at, kept_steps, step_lines, with_step}
+use Rattle.ibc_sim.specs.ScriptTexts.{kept_steps, step_lines, with_step}
 use Rattle.ibc_sim.proofs.ScriptLines.{lines_more, lines_all}
 use Rattle.ibc_sim.proofs.script_text.script_text.Goals as goal
 
