@@ -1,6 +1,8 @@
 //! Scripts are run on chains that are looked at.
 
-ghost use Rattle.std.specs.Prelude.{OnOk};
+ghost use Rattle.std.specs.Prelude.{IfOk, OnOk};
+ghost use Rattle.ibc_machine.specs.chain.Genesis.{genesis_state};
+ghost use Rattle.ibc_script_worlds.specs.WorldChains.{IsNewWorld};
 ghost use Rattle.ibc_sim.specs.ReadScripts.{ReadsAsScript};
 
 use crate::checked::Checked;
@@ -13,10 +15,15 @@ use std::alloc::Global;
 use std::io;
 
 /// The chains with which a script begins. Faults: `BadScript` where no world begins so; `NoMemory`.
-pub fn begin(alloc: Global, script: &Script) -> Result<Checked, Fault> {
+pub fn begin(alloc: Global, script: &Script) -> Result<Checked, Fault>
+    ensures { IfOk result (IsNewWorld (genesis_state script.now.genesis)) }
+{
     let notes = RunNotes::new(alloc, &script.genesis)?;
     match WorldFactory::new(alloc).begin(&script.genesis) {
-        Ok(world) => Ok(Checked::new(world, notes)),
+        Ok(world) => {
+            let checked = Checked::new(world, notes);
+            Ok(checked)
+        }
         Err(refusal) => {
             drop(notes);
             Err(Fault::of_refusal(refusal))
