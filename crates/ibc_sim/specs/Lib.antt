@@ -3,6 +3,7 @@ pub mod Draws
 pub mod Findings
 pub mod Flights
 pub mod KnownEnds
+pub mod RacedLedgers
 pub mod ReadScripts
 pub mod ScriptTexts
 pub mod ShortScripts
