@@ -47,13 +47,13 @@ all_are_kept text_of (step ∷ steps) = ap (λ (l : List Text). text_of step ∷
 pub lines_more : {A : Type 0} (text_of : A → Text) (first : Bool) (kept : List Bool) (steps : List A) (i : ℕ) (step : A) (before : Text)
     → i < length steps → step ≡ get_or steps i step
     → (before ++ (if is_kept_at kept i then with_step first (text_of step) else []))
-      ++ step_lines (if is_kept_at kept i then false else first) (kept_steps (drop (i + 1) kept) (map text_of (drop (i + 1) steps)))
+    ++ step_lines (if is_kept_at kept i then false else first) (kept_steps (drop (i + 1) kept) (map text_of (drop (i + 1) steps)))
     ≡ before ++ step_lines first (kept_steps (drop i kept) (map text_of (drop i steps)))
 lines_more {A} text_of first kept steps i step before low is =
     let there : drop i steps ≡ step ∷ drop (i + 1) steps = drop_more steps i step low ∙ ap (λ (it : A). it ∷ drop (i + 1) steps) (sym is) in
     let others : List Text = map text_of (drop (i + 1) steps) in
     let left : kept_steps (drop i kept) (map text_of (drop i steps))
-      ≡ (if is_kept_at kept i then text_of step ∷ kept_steps (drop (i + 1) kept) others else kept_steps (drop (i + 1) kept) others) =
+    ≡ (if is_kept_at kept i then text_of step ∷ kept_steps (drop (i + 1) kept) others else kept_steps (drop (i + 1) kept) others) =
     ap (λ (l : List A). kept_steps (drop i kept) (map text_of l)) there ∙ kept_there kept i (text_of step) others in
     line_more first (is_kept_at kept i) before (text_of step) (kept_steps (drop (i + 1) kept) others)
     ∙ ap (λ (l : List Text). before ++ step_lines first l) (sym left)

@@ -66,13 +66,7 @@ impl RunNotes {
     }
 
     /// Notes what a chain has answered, and looks at the entry that came with it. What was found before stays. Refused: `NoMemory`.
-    pub fn note(
-        &mut self,
-        world: &World,
-        chain: u8,
-        tag: u8,
-        reply: &Reply,
-    ) -> Result<(), Refusal>
+    pub fn note(&mut self, world: &World, chain: u8, tag: u8, reply: &Reply) -> Result<(), Refusal>
         ensures { OnOk result (IsSome self.old.finding → self.new.finding ≡ self.old.finding) }
     {
         self.counts.add(tag, reply);
