@@ -8,14 +8,14 @@ use Rattle.ibc_script_worlds.specs.KeptReceipts.{told_by}
 use Rattle.ibc_script_worlds.proofs.Raced.{all_taken}
 use Rattle.ibc_sim.proofs.racing.take_all.Goals as goal
 
-pub returns-in-Ok-ledgers : goal.returns-in-Ok-ledgers
-returns-in-Ok-ledgers g c new =
+pub returns-in-Ok-ledgers_of : goal.returns-in-Ok-ledgers_of
+returns-in-Ok-ledgers_of g c new =
     let Own : LedgerModel → Type 0 = IsOfWorld g.W.WorldBrand.table g.W.WorldBrand.genesis in
-    let ledgers : List LedgerModel = c.in-Ok-ledgers.ledgers.items in
+    let ledgers : List LedgerModel = c.in-Ok-ledgers_of.ledgers.items in
     let receipts : List ReceiptModel = c.into_parts-parts.result.1.items in
-    let own : All Own ledgers = c.in-Ok-ledgers.ensures.world in
+    let own : All Own ledgers = c.in-Ok-ledgers_of.ensures.world in
     let answered : All (HasAnswered receipts) ledgers =
-    subst (λ (those : List ReceiptModel). All (HasAnswered those) ledgers) c.as_slice.ensures.value c.in-Ok-ledgers.ensures.answered in
+    subst (λ (those : List ReceiptModel). All (HasAnswered those) ledgers) c.as_slice.ensures.value c.in-Ok-ledgers_of.ensures.answered in
     let taken = all_taken c.new-runner.result.names.now c.args.steps.items c.args.shared c.take_each.new.shared (map told_by receipts) new
     c.into_parts-parts.ensures.asked c.in-Ok.ensures in (
       λ first at k held there.

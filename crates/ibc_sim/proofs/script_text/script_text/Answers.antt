@@ -19,9 +19,9 @@ loop-place-preserved c =
     let old : Text = string_bytes at.text in
     let left : List Text = kept_steps (drop (at.place + 1) kept) (map string_bytes (drop (at.place + 1) steps)) in
     let low : at.place < length steps = omega (arith, c.loop-place-test.true) in
-    let text = c.in_ok-add_if.ensures.added
+    let text = c.in_ok-is_first.ensures.added
     ∙ ap₂ (λ (keeps : Bool) (step : Text). old ++ (if keeps then with_step at.is_first step else [])) c.is_kept-keeps.ensures c.as_str.ensures.value in
-    let first = c.in_ok-add_if.ensures.first ∙ ap (λ (keeps : Bool). if keeps then false else at.is_first) c.is_kept-keeps.ensures in
+    let first = c.in_ok-is_first.ensures.first ∙ ap (λ (keeps : Bool). if keeps then false else at.is_first) c.is_kept-keeps.ensures in
     ap₂ (λ (text : Text) (first : Bool). text ++ step_lines first left) text first
     ∙ lines_more string_bytes at.is_first kept steps at.place it old low c.index-steps-place.is ∙ at.invariant
 
