@@ -1,6 +1,6 @@
 //! What is drawn, from the top down.
 
-ghost use Rattle.std.specs.Prelude.{◌≡◌, ◌++◌, ◌+◌, ◌-◌, ◌^◌, ◌∷◌, [], OnOk, min};
+ghost use Rattle.std.specs.Prelude.{◌≡◌, ◌++◌, ◌+◌, ◌-◌, ◌^◌, ◌∷◌, [], OnOk, find, min, reverse};
 ghost use Rattle.ibc_drawing.specs.Ticks.{end_of_block, is_tick, new_tick};
 
 use crate::escaped::write_escaped;
@@ -240,11 +240,21 @@ impl Canvas<'_> {
 fn y_of_tick(ticks: &[Tick], chain: u8, height: u64, otherwise: usize) -> usize
     ensures { result ≡ end_of_block chain height ticks.now otherwise }
 {
+    match last_tick(ticks, chain, height) {
+        Some(tick) => tick.y,
+        None => otherwise,
+    }
+}
+
+// The last tick of a chain and a height.
+fn last_tick(ticks: &[Tick], chain: u8, height: u64) -> Option<Tick>
+    ensures { result ≡ find (is_tick chain height) (reverse ticks.now) }
+{
     ticks
         .iter()
         .rev()
+        .copied()
         .find(|tick| is_tick(tick, chain, height))
-        .map_or(otherwise, |tick| tick.y)
 }
 
 // Whether a tick is that of a chain and a height.

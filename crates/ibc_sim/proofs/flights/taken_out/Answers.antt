@@ -26,7 +26,7 @@ returns-in-Some-clause-taken c =
     let flights : List Flight = c.args.flights.now.items in
     let found : position test flights ≡ Some c.in-Some.place = ap (position test) (sym c.as_slice.ensures.value) ∙ sym c.place_of.ensures ∙ c.in-Some.is in
     let here : c.in-Some.place < length list = (position-Some test list c.in-Some.place any_flight (sym c.place_of.ensures ∙ c.in-Some.is)).0 in
-    let there = slice_get_read flights (length list) c.in-Some.place c.remove.result (ap (length {A = Flight}) c.as_slice.ensures.value) here c.remove.ensures.value in
+    let there = slice_get_read flights (length list) c.in-Some.place c.remove.result (ap length c.as_slice.ensures.value) here c.remove.ensures.value in
     sym there ∙ sym (ap (option_and_then (slice_get flights)) found)
 
 pub returns-in-Some-clause-rest : goal.returns-in-Some-clause-rest

@@ -6,7 +6,7 @@ use Rattle.ibc_sim.proofs.flights.Flights.arrive.Goals as goal
 
 pub returns-in-Some-clause-received : goal.returns-in-Some-clause-received
 returns-in-Some-clause-received c =
-    c.in_ok-push.ensures.items
+    c.in_ok-push-in-Some.ensures.items
     ∙ ap (λ (flight : Option Flight). c.args.self.now.received.items ++ option_to_list flight) (sym c.in-Some.is ∙ c.taken_out.ensures.taken)
 
 pub returns-in-None-clause-received : goal.returns-in-None-clause-received
