@@ -1,7 +1,6 @@
 //! The own end of a packet's channel.
 
-ghost use Rattle.std.specs.Prelude.{◌≡◌, ◌&&◌, ◌==◌, nat_lt, true, Some, Ok, Err, IfOk};
-ghost use Rattle.ibc_ids.specs.declared.refusal.Refusal.TheVariants.{UnknownChannel};
+ghost use Rattle.std.specs.Prelude.{◌≡◌, ◌&&◌, nat_lt, IfOk};
 ghost use Rattle.ibc_machine.specs.ics04.Channels as channels;
 ghost use Rattle.ibc_machine.specs.ics04.Packets as plain;
 ghost use Rattle.ibc_machine.specs.chain.Records.{commitment_of};

@@ -1,6 +1,6 @@
 //! Checks that the messages of connections, channels and packets share.
 
-ghost use Rattle.std.specs.Prelude.{◌≡◌, ◌⊎◌, ◌-◌, ◌^◌, ◌<◌, false, Some, Ok, Err, is_some, IfOk, IfErr, IsErrOf};
+ghost use Rattle.std.specs.Prelude.{◌≡◌, ◌⊎◌, ◌-◌, ◌^◌, ◌<◌, false, Some, is_some, IfOk, IfErr, IsErrOf};
 ghost use Rattle.ibc_machine.specs.ics24.Evidence.{require_known, require_number};
 ghost use Rattle.ibc_wire.specs.Reading.{proof_of};
 ghost use Rattle.ibc_records.specs.RecordsModel.{core_of};

@@ -1,6 +1,6 @@
 //! Sending packets: the checks, between which an application has its own.
 
-ghost use Rattle.std.specs.Prelude.{◌≡◌, ◌&&◌, ◌==◌, Some, IfOk};
+ghost use Rattle.std.specs.Prelude.{◌≡◌, ◌&&◌, ◌==◌, IfOk};
 ghost use Rattle.ibc_records.specs.OwnEnds.{IsEndAt};
 ghost use Rattle.ibc_records.specs.Sending.{IsSendingEnd, AreJudgedTimeouts, IsReachedTimeout, IsReachedLimit};
 
