@@ -45,6 +45,7 @@ SettlesPath old place other new =
 
 -- ---- what stands at the paths of the end of a port and a name (ICS 24, "Path-space")
 
+-- the end itself
 abbrev pub end_path_of : Text × Text → Text
 end_path_of name = path (key.ChannelEnd name.0 name.1)
 

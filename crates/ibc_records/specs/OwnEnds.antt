@@ -34,8 +34,8 @@ abbrev pub IsDestinationEnd : RecordsModel → Packet → Channel → Type 0
 IsDestinationEnd held p mine = channel_at (core_of held) p.destination_port p.destination_channel ≡ Some mine
 
 -- there is such a channel end, or else `UnknownChannel`
-abbrev pub end_found : RecordsModel → Text → Text → Checked Channel
-end_found held port id = expect (channel_at (core_of held) port id) UnknownChannel
+abbrev pub end_or_unknown : RecordsModel → Text → Text → Checked Channel
+end_or_unknown held port id = expect (channel_at (core_of held) port id) UnknownChannel
 
 -- the client knows the height
 abbrev pub KnowsHeight : RecordsModel → Text → ℕ → Type 0

@@ -87,8 +87,8 @@ IsCoreOf next clients connections channels result =
     IfOk result (λ plain. plain ≡ record (core_from next) { clients = map abstract_client_entry clients; connections = connections; channels = channels })
 
 -- the numbers of the next client, connection and channel
-abbrev pub next_of : RecordsModel → NextNumbers
-next_of held = record { client = held.next_client; connection = held.next_connection; channel = held.next_channel }
+abbrev pub next_numbers_of : RecordsModel → NextNumbers
+next_numbers_of held = record { client = held.next_client; connection = held.next_connection; channel = held.next_channel }
 
 -- records as of a chain in the beginning, whose working block has this time, but that the next ones have these numbers
 pub record IsCountingFrom (window time : ℕ) (next : NextNumbers) (held : RecordsModel) : Type 0 where

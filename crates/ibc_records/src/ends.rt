@@ -5,7 +5,7 @@ ghost use Rattle.ibc_machine.specs.ics04.Channels as channels;
 ghost use Rattle.ibc_machine.specs.ics04.Packets as plain;
 ghost use Rattle.ibc_machine.specs.chain.Records.{commitment_of};
 ghost use Rattle.ibc_machine.specs.ics24.Values.{same_commitment};
-ghost use Rattle.ibc_records.specs.OwnEnds.{IsEndAt, end_found, IsConnectionAt, KnowsHeight, PassesKnown, FailsKnown};
+ghost use Rattle.ibc_records.specs.OwnEnds.{IsEndAt, end_or_unknown, IsConnectionAt, KnowsHeight, PassesKnown, FailsKnown};
 ghost use Rattle.ibc_records.specs.TimeoutChecks.{same_timeouts};
 ghost use Rattle.ibc_records.specs.WhyRefused.{FailsBy};
 
@@ -20,7 +20,7 @@ pub fn find_channel<'a>(
     channel: &ChannelId,
 ) -> Result<&'a Channel, Refusal>
     ensures ok { IfOk result (λ mine. IsEndAt records.now port.now channel.now mine.now) }
-    ensures err { FailsBy (end_found records.now port.now channel.now) result }
+    ensures err { FailsBy (end_or_unknown records.now port.now channel.now) result }
 {
     match records.channel(port, channel)? {
         Some(mine) => Ok(mine),

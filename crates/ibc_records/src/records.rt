@@ -5,7 +5,7 @@ ghost use Rattle.ibc_ids.specs.Texts.{text_cmp};
 ghost use Rattle.ibc_ids.specs.Maps.{at};
 ghost use Rattle.ibc_ids.specs.Paths.{path};
 ghost use Rattle.ibc_ids.specs.declared.refusal.Refusal.TheVariants.{NoConsensus, NoMemory, TimeBack, UnknownClient};
-ghost use Rattle.ibc_records.specs.RecordsModel.{core_of, after_commit, IsNew, IsCountingFrom, AddsClient, UpdatesClient, IsUnchanged, next_of};
+ghost use Rattle.ibc_records.specs.RecordsModel.{core_of, after_commit, IsNew, IsCountingFrom, AddsClient, UpdatesClient, IsUnchanged, next_numbers_of};
 ghost use Rattle.ibc_machine.specs.chain.Genesis.{empty_core};
 ghost use Rattle.ibc_machine.specs.ics24.Image.{image, core_root, IsKeyed};
 ghost use Rattle.ibc_machine.specs.chain.Orderly.{IsOrderly};
@@ -285,7 +285,7 @@ impl Records {
 
     // The numbers of the next client, connection and channel.
     fn next_numbers(&self) -> NextNumbers
-        ensures { result ≡ next_of self.now }
+        ensures { result ≡ next_numbers_of self.now }
     {
         NextNumbers {
             client: self.next_client,

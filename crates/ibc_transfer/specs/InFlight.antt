@@ -16,7 +16,7 @@ pub record IsInFlight (bank : BankState) (core : Core) : Type 0 where
 abbrev pub IsFlight : Text → Channel → Channel → Option ℕ → Type 0
 IsFlight denom mine theirs sum = SomeIff sum (flight_between denom (Some mine) (Some theirs) < 2 ^ 128) (flight_between denom (Some mine) (Some theirs))
 
--- where it is Ok, it is how much of it the packet of a sequence has under way, or none where that is more than 2^128 - 1
+-- the same of the packet of a sequence, where it is Ok
 abbrev pub IsUnderWay : Text → Text → Channel → ℕ → Commitment → Result (Option ℕ) Refusal → Type 0
 IsUnderWay version denom theirs n c result =
     IfOk result (λ amount. SomeIff amount (amount_under_way version denom theirs (n, c) < 2 ^ 128) (amount_under_way version denom theirs (n, c)))
