@@ -1,25 +1,19 @@
--- What the steps of packets leave of the channel ends, and how the application answers (ICS 4, "Packet flow & handling").
-use Rattle.std.specs.Prelude.{◌≡◌, ◌⊎◌, ℕ, ⊤, Result, Ok, Err, IfOk, IfErr, IfSome, OnOk}
+-- What the steps of packets leave of the channel ends (ICS 4, "Packet flow & handling").
+use Rattle.std.specs.Prelude.{◌≡◌, ℕ, Result, IfOk, IfSome}
 use Rattle.ibc_ids.specs.Texts.{Text, pair_cmp}
 use Rattle.ibc_ids.specs.Maps.{at, with}
 use Rattle.ibc_ids.specs.declared.refusal.Refusal.{Refusal}
-use Rattle.ibc_ids.specs.declared.refusal.Refusal.TheVariants.{NoMemory}
 use Rattle.ibc_maps.specs.SortedMapModel.{SortedMapModel}
 use Rattle.ibc_wire.specs.declared.records.ChannelEnd.{ChannelEnd}
-use Rattle.ibc_wire.specs.declared.packet.Packet.{Packet}
 use Rattle.ibc_machine.specs.chain.Records.{Channel, Commitment}
-use Rattle.ibc_machine.specs.chain.Checks.{Checked}
 use Rattle.ibc_machine.specs.ics04.Packets.{after_send, after_receive, after_ack, after_timeout}
 use Rattle.ibc_records.specs.declared.acknowledgement.AckCopies.{AckCopies}
-use Rattle.ibc_records.specs.RecordsModel.{RecordsModel}
-use Rattle.ibc_records.specs.OwnEnds.{source_end}
-use Rattle.ibc_records.specs.Packets.{ReceivesPacket}
 
 -- channel ends by their port and name
 abbrev pub EndsByName : Type 0
 EndsByName = SortedMapModel (Text × Text) Channel
 
--- ---- a channel end that is there changes, and no other
+-- ---- one that is there changes, and no other
 
 -- it has this end of a channel
 abbrev pub HasNewEnd : Text × Text → ChannelEnd → EndsByName → EndsByName → Type 0
@@ -42,48 +36,3 @@ AcknowledgesOn name n old new = IfSome (at pair_cmp name old.pairs) (λ mine. ne
 -- the packet of this sequence is timed out
 abbrev pub TimesOutOn : Text × Text → ℕ → EndsByName → EndsByName → Type 0
 TimesOutOn name n old new = IfSome (at pair_cmp name old.pairs) (λ mine. new.pairs ≡ with pair_cmp name (after_timeout n mine) old.pairs)
-
--- ---- what the application answers
-
--- the copies are of the acknowledgement of a packet that came over a channel of this version
-abbrev pub AnswersPacket : {A : Type 0} → (A → Text → Packet → Text × A) → A → Text → Packet → Result AckCopies Refusal → A → Type 0
-AnswersPacket receives app version p result after = IfOk result (λ acks. (acks.reply, after) ≡ receives app version p)
-
--- the same, over the channel of this end
-abbrev pub AnswersOn : {A : Type 0} → (A → Text → Packet → Text × A) → Text × Text → EndsByName → A → Packet → Result AckCopies Refusal → A → Type 0
-AnswersOn receives name ends app p result after =
-    IfOk result (λ acks. IfSome (at pair_cmp name ends.pairs) (λ mine. (acks.reply, after) ≡ receives app mine.end.version p))
-
--- where it is Ok, the packet was received with the first of the two acknowledgements, which are the same
-abbrev pub IfReceived : {A : Type 0} → (A → Text → Packet → Text × A) → RecordsModel → A → Packet → Result (Text × Text) Refusal → RecordsModel → A → Type 0
-IfReceived receives old app p result new after = IfOk result (λ acks. ReceivesPacket receives old app p acks.0 new after)
-
--- where it is Ok, the application took the acknowledgement
-abbrev pub TellsAck : {A : Type 0} → (A → Text → Packet → Text → Checked A) → Text × Text → EndsByName → A → Packet → Text → Result ⊤ Refusal → A → Type 0
-TellsAck told name ends app p ack result after =
-    OnOk result (IfSome (at pair_cmp name ends.pairs) (λ mine. told app mine.end.version p ack ≡ Ok after))
-
--- where it is Ok, the application took the timeout
-abbrev pub TellsTimeout : {A : Type 0} → (A → Text → Packet → Checked A) → Text × Text → EndsByName → A → Packet → Result ⊤ Refusal → A → Type 0
-TellsTimeout told name ends app p result after =
-    OnOk result (IfSome (at pair_cmp name ends.pairs) (λ mine. told app mine.end.version p ≡ Ok after))
-
--- memory ran out, or the refusal is the application's answer to the acknowledgement
-abbrev pub IsAckRefusedOn : {A : Type 0} → (A → Text → Packet → Text → Checked A) → Text × Text → EndsByName → A → Packet → Text → Result ⊤ Refusal → Type 0
-IsAckRefusedOn told name ends app p ack result =
-    IfErr result (λ refusal. (refusal ≡ NoMemory) ⊎ IfSome (at pair_cmp name ends.pairs) (λ mine. told app mine.end.version p ack ≡ Err refusal))
-
--- memory ran out, or the refusal is the application's answer to the timeout
-abbrev pub IsTimeoutRefusedOn : {A : Type 0} → (A → Text → Packet → Checked A) → Text × Text → EndsByName → A → Packet → Result ⊤ Refusal → Type 0
-IsTimeoutRefusedOn told name ends app p result =
-    IfErr result (λ refusal. (refusal ≡ NoMemory) ⊎ IfSome (at pair_cmp name ends.pairs) (λ mine. told app mine.end.version p ≡ Err refusal))
-
--- the same of the end that sent the packet, among the records
-abbrev pub IsAckRefused : {A : Type 0} → (A → Text → Packet → Text → Checked A) → RecordsModel → A → Packet → Text → Result ⊤ Refusal → Type 0
-IsAckRefused told held app p ack result =
-    IfErr result (λ refusal. (refusal ≡ NoMemory) ⊎ IfSome (source_end held p) (λ mine. told app mine.end.version p ack ≡ Err refusal))
-
--- and of the timeout
-abbrev pub IsTimeoutRefused : {A : Type 0} → (A → Text → Packet → Checked A) → RecordsModel → A → Packet → Result ⊤ Refusal → Type 0
-IsTimeoutRefused told held app p result =
-    IfErr result (λ refusal. (refusal ≡ NoMemory) ⊎ IfSome (source_end held p) (λ mine. told app mine.end.version p ≡ Err refusal))

@@ -10,6 +10,7 @@ pub mod HandlerContract
 pub mod PacketHandlers
 pub mod Packets
 pub mod ChannelSteps
+pub mod AppAnswers
 pub mod RecordsFields
 pub mod ClientReplies
 pub mod HeaderChecks

@@ -9,7 +9,7 @@ ghost use Rattle.ibc_machine.specs.chain.Records.{is_one_of};
 ghost use Rattle.ibc_machine.specs.ics04.Channels.{new_channel};
 ghost use Rattle.ibc_machine.specs.ics04.Packets.{is_ordered, after_send, after_receive, after_ack, after_timeout};
 ghost use Rattle.ibc_machine.specs.ics24.Values.{value_bytes, AckIs};
-ghost use Rattle.ibc_records.specs.ChannelSteps.{AnswersPacket};
+ghost use Rattle.ibc_records.specs.AppAnswers.{AnswersPacket};
 ghost use Rattle.ibc_records.specs.WhyRefused.{IsRefusedAs};
 
 use crate::acknowledgement::{AckCopies, AckRoom};

@@ -13,8 +13,7 @@ ghost use Rattle.ibc_machine.specs.ics24.Values.{value_bytes, AckIs, CommitmentI
 ghost use Rattle.ibc_records.specs.RecordsModel.{core_of, IsUnchanged};
 ghost use Rattle.ibc_records.specs.Packets.{SendsPacket, AcknowledgesPacket, TimesOutPacket};
 ghost use Rattle.ibc_records.specs.ChannelSteps.{SendsOn, ReceivesOn, AcknowledgesOn, TimesOutOn};
-ghost use Rattle.ibc_records.specs.ChannelSteps.{IfReceived, AnswersOn, TellsAck, TellsTimeout};
-ghost use Rattle.ibc_records.specs.ChannelSteps.{IsAckRefused, IsAckRefusedOn, IsTimeoutRefused, IsTimeoutRefusedOn};
+ghost use Rattle.ibc_records.specs.AppAnswers.{IfReceived, IsAckRefused, IsTimeoutRefused, AnswersOn, TellsAck, IsAckRefusedOn, TellsTimeout, IsTimeoutRefusedOn};
 ghost use Rattle.ibc_records.specs.Entries.{commitment_path, next_send_path, ack_path, IsReceivedEntry, IsAckedEntry, IsClosedEntry};
 ghost use Rattle.ibc_records.specs.OwnEnds.{CanSend, CanReceive, CanAcknowledge, CanCountRecv, CanCountAck};
 ghost use Rattle.ibc_records.specs.WhyRefused.{IsRefusedAs};
