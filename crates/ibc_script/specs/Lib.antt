@@ -4,3 +4,4 @@ pub mod EventKinds
 pub mod Faults
 pub mod Scripts
 pub mod ScriptValues
+pub mod StepReading

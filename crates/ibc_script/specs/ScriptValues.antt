@@ -1,17 +1,22 @@
 -- Which script a JSON value is: the members of each step, and what each of them is.
-use Rattle.std.specs.Prelude.{◌≡◌, ◌⊎◌, ◌<◌, ◌≤◌, ℕ, min, Bool, true, false, ◌&&◌, codes, decimal, List, [], ◌∷◌, ◌++◌, length, slice_get, zip, Option, None, Some, option_map, option_and_then, IsTrue, IsUtf8, ⊤}
+use Rattle.std.specs.Prelude.{◌≡◌, ◌≢◌, ◌⊎◌, ◌<◌, ◌≤◌, ◌^◌, ℕ, min, Bool, true, false, ◌&&◌, codes, decimal, List, [], ◌∷◌, ◌++◌, length, map, slice_get, zip, Option, None, Some, option_map, option_and_then, IsTrue, IsUtf8, String, ⊤}
+use Rattle.std.specs.Borrow.{Bor}
+use Rattle.std.specs.Global.{Global, Vec}
 use Rattle.std.specs.List.{list_any}
 use Rattle.std.specs.Option.{option_map_or}
 use Rattle.std.specs.Str.{bytes_eq}
 use Rattle.base64.specs.Engines.{standard}
-use Rattle.base64.specs.GeneralPurpose.{encode_of}
+use Rattle.base64.specs.GeneralPurpose.{encode_of, IsBytes}
 use Rattle.serde_json.specs.Data.{Data, Items, no_items, item, Members, no_members, member}
 use Rattle.serde_json.specs.Find.{as_array, as_number, as_object, as_str, as_u64, get}
 use Rattle.serde_json.specs.Read.{read}
+use Rattle.serde_json.specs.View.{members_view, view}
+use Rattle.serde_json.specs.declared.value.Value.{Value}
 use Rattle.ibc_ids.specs.Paths.{path}
 use Rattle.ibc_ids.specs.Texts.{Text}
 use Rattle.ibc_ids.specs.declared.key.Key.{Key}
-use Rattle.ibc_machine.specs.chain.Genesis.{ChainState, GenesisState, Holding, genesis_state}
+use Rattle.ibc_machine.specs.chain.Genesis.{ChainState, GenesisState, Holding, chain_state, genesis_state}
+use Rattle.ibc_machine.specs.declared.genesis.ChainStart.{ChainStart}
 use Rattle.ibc_wire.specs.Kinds as wire
 use Rattle.ibc_wire.specs.Tokens.{is_listed}
 use Rattle.ibc_wire.specs.declared.records.Order.{Order}
@@ -59,6 +64,13 @@ AreEach is (x ∷ xs) (value ∷ values) = is x (Some value) × AreEach is xs va
 AreEach is [] (value ∷ values) = ⊥
 AreEach is (x ∷ xs) [] = ⊥
 
+-- the same of the values as they are read
+abbrev pub AreEachOf : {A : Type 0} → (A → Option Data → Type 0) → List A → List Value → Type 0
+AreEachOf is xs values = AreEach is xs (map view values)
+
+abbrev pub AreValues : List Value → Option Data → Type 0
+AreValues values = AreItems (map view values)
+
 abbrev pub IsListOf : {A : Type 0} → (A → Option Data → Type 0) → List A → Option Data → Type 0
 IsListOf is xs found = (values : List Data) × AreItems values found × AreEach is xs values
 
@@ -76,6 +88,13 @@ IsAmount amount = IsText (decimal amount)
 
 abbrev pub IsNote : Text → Option Data → Type 0
 IsNote bytes = IsText (encode_of standard bytes)
+
+-- texts that spell nothing: no amount below 2^128, and no bytes in base64
+abbrev pub IsNoAmount : Text → Type 0
+IsNoAmount text = (amount : ℕ) → amount < 2 ^ 128 → text ≢ decimal amount
+
+abbrev pub IsNoNote : Text → Type 0
+IsNoNote text = (bytes : List ℕ) → IsBytes bytes → text ≢ encode_of standard bytes
 
 abbrev pub IsPath : Key → Option Data → Type 0
 IsPath key = IsText (path key)
@@ -142,6 +161,13 @@ are_among names (member name value members) = list_any (bytes_eq name) names && 
 -- an object that has members of these names alone
 abbrev pub has_only : List Text → Data → Bool
 has_only names given = option_map_or (are_among names) (as_object given) false
+
+-- the same of an object as it is read, and of its members
+abbrev pub HasOnly : List (Bor Text) → Value → Type 0
+HasOnly names value = IsTrue (has_only (map (λ name. name.now) names) (view value))
+
+abbrev pub AreNamed : List (Bor Text) → List (String Global × Value) → Type 0
+AreNamed names members = IsTrue (are_among (map (λ name. name.now) names) (members_view members))
 
 -- an object that has these members, and no others
 abbrev pub IsObject : List JsonField → Data → Type 0
@@ -268,6 +294,13 @@ IsChainStart (name, start) (Some given) =
     field (codes "name") (IsText name) ∷ field (codes "time") (IsNumber start.time)
     ∷ field (codes "balances") (IsListOf IsHolding start.balances) ∷ []
     ) given
+
+-- the same of what is read of one chain, and of all
+abbrev pub IsStartOf : Value → Text × ChainStart → Type 0
+IsStartOf value = λ start. IsChainStart (start.0, chain_state start.1) (Some (view value))
+
+abbrev pub AreChainStartsOf : List Value → Vec Text × Vec ChainStart → Type 0
+AreChainStartsOf values = λ r. AreEach IsChainStart (zip r.0.items (map chain_state r.1.items)) (map view values)
 
 -- how many heights are kept; where nothing is said, the smaller of the capacity and 4,096
 abbrev pub IsWindow : ℕ → ℕ → Option Data → Type 0

@@ -1,20 +1,20 @@
 //! The members of JSON objects in a script.
 
-ghost use Rattle.std.specs.Prelude.{◌≡◌, IfErr, IfOk, IsTrue, Some, map, ok_or};
+ghost use Rattle.std.specs.Prelude.{◌≡◌, IfErr, IfOk, Some, ok_or};
 ghost use Rattle.std.specs.List.{list_any};
 ghost use Rattle.serde_json.specs.Find.{get};
-ghost use Rattle.serde_json.specs.View.{members_view, view};
+ghost use Rattle.serde_json.specs.View.{view};
 ghost use Rattle.ibc_script.specs.Faults.{IsScriptFault};
 ghost use Rattle.std.specs.Str.{bytes_eq};
 ghost use Rattle.ibc_script.specs.Scripts.{number_at};
-ghost use Rattle.ibc_script.specs.ScriptValues.{AreItems, IsNumber, IsNumberIfThere, IsText, IsTextIfThere, are_among, has_only};
+ghost use Rattle.ibc_script.specs.ScriptValues.{AreNamed, AreValues, HasOnly, IsNumber, IsNumberIfThere, IsText, IsTextIfThere};
 
 use crate::Fault;
 use serde_json::{Map, Value};
 
 /// `Ok` where each member of the object has one of the names. Fault: `BadScript`, also where it is no object.
 pub fn has_only(object: &Value, names: &[&str]) -> Result<(), Fault>
-    ensures only { IfOk result (λ _. IsTrue (has_only (map (λ name. name.now) names.now) (view object.now))) }
+    ensures only { IfOk result (λ _. HasOnly names.now object.now) }
     ensures faults { IfErr result IsScriptFault }
 {
     match object.as_object() {
@@ -25,7 +25,7 @@ pub fn has_only(object: &Value, names: &[&str]) -> Result<(), Fault>
 
 // `Ok` where each of these members has one of the names. Fault: `BadScript`.
 fn are_among(members: &Map<String, Value>, names: &[&str]) -> Result<(), Fault>
-    ensures among { IfOk result (λ _. IsTrue (are_among (map (λ name. name.now) names.now) (members_view members.now.entries))) }
+    ensures among { IfOk result (λ _. AreNamed names.now members.now.entries) }
     ensures faults { IfErr result IsScriptFault }
 {
     for member in members.keys() {
@@ -98,7 +98,7 @@ pub fn item_text(item: &Value) -> Result<&str, Fault>
 
 /// The items of the member of this name, a list. Fault: `BadScript`.
 pub fn list<'v>(object: &'v Value, name: &str) -> Result<&'v [Value], Fault>
-    ensures items { IfOk result (λ items. AreItems (map view items.now) (get name.now (view object.now))) }
+    ensures items { IfOk result (λ items. AreValues items.now (get name.now (view object.now))) }
     ensures faults { IfErr result IsScriptFault }
 {
     match object.get(name) {
@@ -109,7 +109,7 @@ pub fn list<'v>(object: &'v Value, name: &str) -> Result<&'v [Value], Fault>
 
 /// The items that an item of a list has, a list. Fault: `BadScript`.
 pub fn item_list(item: &Value) -> Result<&[Value], Fault>
-    ensures items { IfOk result (λ items. AreItems (map view items.now) (Some (view item.now))) }
+    ensures items { IfOk result (λ items. AreValues items.now (Some (view item.now))) }
     ensures faults { IfErr result IsScriptFault }
 {
     match item.as_array() {

@@ -93,7 +93,7 @@ pub fn read_script(alloc: Global, bytes: &[u8]) -> Result<Script, Fault>
 
 // How many heights the chains of a script keep.
 fn read_window(script: &Value, capacity: u64) -> Result<u64, Fault>
-    ensures window { IfOk result (λ window. IsWindow capacity window (get (codes "window") (view script.now))) }
+    ensures window { IfOk result (λ w. IsWindow capacity w (get (codes "window") (view script.now))) }
     ensures faults { IfErr result IsScriptFault }
 {
     match optional_number(script, "window")? {

@@ -1,10 +1,9 @@
 //! The chains of a script, and how they begin.
 
-ghost use Rattle.std.specs.Prelude.{◌≡◌, ◌≤◌, ℕ, Some, false, length, map, slice_get, zip, IfOk, IfErr};
+ghost use Rattle.std.specs.Prelude.{◌≡◌, ◌≤◌, ℕ, Some, false, length, slice_get, IfOk, IfErr};
 ghost use Rattle.serde_json.specs.View.{view};
-ghost use Rattle.ibc_machine.specs.chain.Genesis.{chain_state};
 ghost use Rattle.ibc_script.specs.Faults.{IsScriptFault};
-ghost use Rattle.ibc_script.specs.ScriptValues.{AreDifferent, AreEach, IsChainStart, IsHolding};
+ghost use Rattle.ibc_script.specs.ScriptValues.{AreDifferent, AreEachOf, AreChainStartsOf, IsHolding, IsStartOf};
 
 use super::{item_amount, item_name, parse_name};
 use crate::members::{has_only, item_list, list, number, text};
@@ -28,7 +27,7 @@ fn read_balance(alloc: Global, value: &Value) -> Result<(UserName, Denom, u128),
 }
 
 fn read_balances(alloc: Global, values: &[Value]) -> Result<Vec<(UserName, Denom, u128)>, Fault>
-    ensures holdings { IfOk result (λ balances. AreEach IsHolding balances.items (map view values.now)) }
+    ensures holdings { IfOk result (λ balances. AreEachOf IsHolding balances.items values.now) }
     ensures faults { IfErr result IsScriptFault }
 {
     let mut balances = Vec::with_capacity(alloc, values.len())?;
@@ -39,7 +38,7 @@ fn read_balances(alloc: Global, values: &[Value]) -> Result<Vec<(UserName, Denom
 }
 
 fn read_chain(alloc: Global, value: &Value) -> Result<(ChainName, ChainStart), Fault>
-    ensures start { IfOk result (λ read. IsChainStart (read.0, chain_state read.1) (Some (view value.now))) }
+    ensures start { IfOk result (IsStartOf value.now) }
     ensures faults { IfErr result IsScriptFault }
 {
     has_only(value, &["name", "time", "balances"])?;
@@ -62,7 +61,7 @@ pub fn read_chains(
     alloc: Global,
     values: &[Value],
 ) -> Result<(Vec<ChainName>, Vec<ChainStart>), Fault>
-    ensures starts { IfOk result (λ r. AreEach IsChainStart (zip r.0.items (map chain_state r.1.items)) (map view values.now)) }
+    ensures starts { IfOk result (AreChainStartsOf values.now) }
     ensures different { IfOk result (λ r. AreDifferent r.0.items) }
     ensures named { IfOk result (λ r. length r.0.items ≡ length r.1.items) }
     ensures few { IfOk result (λ r. length r.0.items ≤ 8) }

@@ -1,12 +1,10 @@
 //! The steps that send messages for connections.
 
 ghost use Rattle.std.specs.Prelude.{◌<◌, length, IfOk, IfErr, codes};
-ghost use Rattle.serde_json.specs.Find.{get};
-ghost use Rattle.serde_json.specs.View.{view};
 ghost use Rattle.ibc_script.specs.Faults.{IsScriptFault};
-ghost use Rattle.ibc_script.specs.ScriptValues.{IsDraft, IsText};
-ghost use Rattle.ibc_script.specs.declared.draft.Draft.TheVariants as any_draft;
+ghost use Rattle.ibc_script.specs.ScriptValues.{IsText};
 ghost use Rattle.ibc_script.specs.Scripts.{IsConnectionAmong};
+ghost use Rattle.ibc_script.specs.StepReading.{IsConnectionDraft, member_at};
 
 use super::step_reader::StepReader;
 use crate::Fault;
@@ -17,7 +15,7 @@ use ibc_ids::ClientId;
 impl StepReader<'_> {
     /// The message for connections of this kind.
     pub fn connection_draft(&self, kind: &str) -> Result<ConnectionDraft, Fault>
-        ensures draft { IfOk result (λ d. IsDraft kind.now self.now.names.now (view self.now.object.now) (any_draft.Connection d)) }
+        ensures draft { IfOk result (IsConnectionDraft self.now kind.now) }
         ensures among { IfOk result (IsConnectionAmong (length self.now.names.now)) }
         ensures faults { IfErr result IsScriptFault }
     {
@@ -32,15 +30,15 @@ impl StepReader<'_> {
 
     /// The clients of the two ends of a connection.
     fn two_clients(&self) -> Result<(ClientId, ClientId), Fault>
-        ensures own { IfOk result (λ clients. IsText clients.0 (get (codes "client") (view self.now.object.now))) }
-        ensures peer { IfOk result (λ clients. IsText clients.1 (get (codes "peer_client") (view self.now.object.now))) }
+        ensures own { IfOk result (λ both. IsText both.0 (member_at self.now (codes "client"))) }
+        ensures peer { IfOk result (λ both. IsText both.1 (member_at self.now (codes "peer_client"))) }
         ensures faults { IfErr result IsScriptFault }
     {
         Ok((self.name("client")?, self.name("peer_client")?))
     }
 
     fn conn_open_init(&self) -> Result<ConnectionDraft, Fault>
-        ensures draft { IfOk result (λ d. IsDraft (codes "ConnOpenInit") self.now.names.now (view self.now.object.now) (any_draft.Connection d)) }
+        ensures draft { IfOk result (IsConnectionDraft self.now (codes "ConnOpenInit")) }
         ensures among { IfOk result (IsConnectionAmong (length self.now.names.now)) }
         ensures faults { IfErr result IsScriptFault }
     {
@@ -53,7 +51,7 @@ impl StepReader<'_> {
     }
 
     fn conn_open_try(&self) -> Result<ConnectionDraft, Fault>
-        ensures draft { IfOk result (λ d. IsDraft (codes "ConnOpenTry") self.now.names.now (view self.now.object.now) (any_draft.Connection d)) }
+        ensures draft { IfOk result (IsConnectionDraft self.now (codes "ConnOpenTry")) }
         ensures among { IfOk result (IsConnectionAmong (length self.now.names.now)) }
         ensures faults { IfErr result IsScriptFault }
     {
@@ -81,7 +79,7 @@ impl StepReader<'_> {
     }
 
     fn conn_open_ack(&self) -> Result<ConnectionDraft, Fault>
-        ensures draft { IfOk result (λ d. IsDraft (codes "ConnOpenAck") self.now.names.now (view self.now.object.now) (any_draft.Connection d)) }
+        ensures draft { IfOk result (IsConnectionDraft self.now (codes "ConnOpenAck")) }
         ensures among { IfOk result (IsConnectionAmong (length self.now.names.now)) }
         ensures faults { IfErr result IsScriptFault }
     {
@@ -104,7 +102,7 @@ impl StepReader<'_> {
     }
 
     fn conn_open_confirm(&self) -> Result<ConnectionDraft, Fault>
-        ensures draft { IfOk result (λ d. IsDraft (codes "ConnOpenConfirm") self.now.names.now (view self.now.object.now) (any_draft.Connection d)) }
+        ensures draft { IfOk result (IsConnectionDraft self.now (codes "ConnOpenConfirm")) }
         ensures among { IfOk result (IsConnectionAmong (length self.now.names.now)) }
         ensures faults { IfErr result IsScriptFault }
     {

@@ -1,11 +1,11 @@
 //! The steps of a script.
 
-ghost use Rattle.std.specs.Prelude.{◌≤◌, ◌<◌, Some, codes, length, map, All, IfOk, IfErr};
-ghost use Rattle.serde_json.specs.Find.{get};
+ghost use Rattle.std.specs.Prelude.{◌≤◌, codes, length, All, IfOk, IfErr};
 ghost use Rattle.serde_json.specs.View.{view};
 ghost use Rattle.ibc_script.specs.Faults.{IsScriptFault};
-ghost use Rattle.ibc_script.specs.ScriptValues.{AreEach, IsDraft, IsStepObject, IsText};
+ghost use Rattle.ibc_script.specs.ScriptValues.{AreEachOf, IsDraft, IsStepObject, IsText};
 ghost use Rattle.ibc_script.specs.Scripts.{IsAmong, IsDraftAmong};
+ghost use Rattle.ibc_script.specs.StepReading.{IsReadStep, member_at};
 
 use super::step_reader::StepReader;
 use crate::members::{has_only, optional_number, text};
@@ -16,8 +16,8 @@ use std::alloc::Global;
 
 impl StepReader<'_> {
     fn block(&self) -> Result<Step, Fault>
-        requires { IsText (codes "Block") (get (codes "do") (view self.now.object.now)) }
-        ensures step { IfOk result (λ step. IsStepObject self.now.names.now step (Some (view self.now.object.now))) }
+        requires { IsText (codes "Block") (member_at self.now (codes "do")) }
+        ensures step { IfOk result (IsReadStep self.now) }
         ensures among { IfOk result (IsAmong (length self.now.names.now)) }
         ensures faults { IfErr result IsScriptFault }
     {
@@ -29,8 +29,8 @@ impl StepReader<'_> {
     }
 
     fn root(&self) -> Result<Step, Fault>
-        requires { IsText (codes "root") (get (codes "do") (view self.now.object.now)) }
-        ensures step { IfOk result (λ step. IsStepObject self.now.names.now step (Some (view self.now.object.now))) }
+        requires { IsText (codes "root") (member_at self.now (codes "do")) }
+        ensures step { IfOk result (IsReadStep self.now) }
         ensures among { IfOk result (IsAmong (length self.now.names.now)) }
         ensures faults { IfErr result IsScriptFault }
     {
@@ -42,8 +42,8 @@ impl StepReader<'_> {
     }
 
     fn prove(&self) -> Result<Step, Fault>
-        requires { IsText (codes "prove") (get (codes "do") (view self.now.object.now)) }
-        ensures step { IfOk result (λ step. IsStepObject self.now.names.now step (Some (view self.now.object.now))) }
+        requires { IsText (codes "prove") (member_at self.now (codes "do")) }
+        ensures step { IfOk result (IsReadStep self.now) }
         ensures among { IfOk result (IsAmong (length self.now.names.now)) }
         ensures faults { IfErr result IsScriptFault }
     {
@@ -56,8 +56,8 @@ impl StepReader<'_> {
     }
 
     fn totals(&self) -> Result<Step, Fault>
-        requires { IsText (codes "totals") (get (codes "do") (view self.now.object.now)) }
-        ensures step { IfOk result (λ step. IsStepObject self.now.names.now step (Some (view self.now.object.now))) }
+        requires { IsText (codes "totals") (member_at self.now (codes "do")) }
+        ensures step { IfOk result (IsReadStep self.now) }
         ensures among { IfOk result (IsAmong (length self.now.names.now)) }
         ensures faults { IfErr result IsScriptFault }
     {
@@ -70,8 +70,8 @@ impl StepReader<'_> {
     }
 
     fn open(&self) -> Result<Step, Fault>
-        requires { IsText (codes "open") (get (codes "do") (view self.now.object.now)) }
-        ensures step { IfOk result (λ step. IsStepObject self.now.names.now step (Some (view self.now.object.now))) }
+        requires { IsText (codes "open") (member_at self.now (codes "do")) }
+        ensures step { IfOk result (IsReadStep self.now) }
         ensures among { IfOk result (IsAmong (length self.now.names.now)) }
         ensures faults { IfErr result IsScriptFault }
     {
@@ -85,8 +85,8 @@ impl StepReader<'_> {
     }
 
     fn relay(&self) -> Result<Step, Fault>
-        requires { IsText (codes "relay") (get (codes "do") (view self.now.object.now)) }
-        ensures step { IfOk result (λ step. IsStepObject self.now.names.now step (Some (view self.now.object.now))) }
+        requires { IsText (codes "relay") (member_at self.now (codes "do")) }
+        ensures step { IfOk result (IsReadStep self.now) }
         ensures among { IfOk result (IsAmong (length self.now.names.now)) }
         ensures faults { IfErr result IsScriptFault }
     {
@@ -117,8 +117,8 @@ impl StepReader<'_> {
     }
 
     fn message(&self, kind: &str) -> Result<Step, Fault>
-        requires { IsText kind.now (get (codes "do") (view self.now.object.now)) }
-        ensures step { IfOk result (λ step. IsStepObject self.now.names.now step (Some (view self.now.object.now))) }
+        requires { IsText kind.now (member_at self.now (codes "do")) }
+        ensures step { IfOk result (IsReadStep self.now) }
         ensures among { IfOk result (IsAmong (length self.now.names.now)) }
         ensures faults { IfErr result IsScriptFault }
     {
@@ -129,7 +129,7 @@ impl StepReader<'_> {
     }
 
     fn step(&self) -> Result<Step, Fault>
-        ensures step { IfOk result (λ step. IsStepObject self.now.names.now step (Some (view self.now.object.now))) }
+        ensures step { IfOk result (IsReadStep self.now) }
         ensures among { IfOk result (IsAmong (length self.now.names.now)) }
         ensures faults { IfErr result IsScriptFault }
     {
@@ -148,7 +148,7 @@ impl StepReader<'_> {
 /// The steps of a script, each of which names chains of the script alone.
 pub fn read_steps(alloc: Global, names: &[ChainName], values: &[Value]) -> Result<Vec<Step>, Fault>
     requires { length names.now ≤ 8 }
-    ensures steps { IfOk result (λ steps. AreEach (IsStepObject names.now) steps.items (map view values.now)) }
+    ensures steps { IfOk result (λ steps. AreEachOf (IsStepObject names.now) steps.items values.now) }
     ensures few { IfOk result (λ steps. length steps.items ≤ 10000) }
     ensures among { IfOk result (λ steps. All (IsAmong (length names.now)) steps.items) }
     ensures faults { IfErr result IsScriptFault }

@@ -1,13 +1,12 @@
 //! The steps that send tokens.
 
 ghost use Rattle.std.specs.Prelude.{Some, codes, length, map, IfOk, IfErr, IsTrue};
-ghost use Rattle.serde_json.specs.Find.{get};
 ghost use Rattle.serde_json.specs.View.{view};
 ghost use Rattle.ibc_wire.specs.Tokens.{is_listed};
 ghost use Rattle.ibc_script.specs.Faults.{IsScriptFault};
-ghost use Rattle.ibc_script.specs.ScriptValues.{AreEach, AreFields, IsDraft, IsText, IsTextIfThere, IsToken, timeout_fields};
-ghost use Rattle.ibc_script.specs.declared.draft.Draft.TheVariants as any_draft;
+ghost use Rattle.ibc_script.specs.ScriptValues.{AreEach, IsText, IsTextIfThere, IsToken};
 ghost use Rattle.ibc_script.specs.Scripts.{IsPacketAmong};
+ghost use Rattle.ibc_script.specs.StepReading.{HasTimeouts, IsPacketDraft, member_at};
 
 use super::step_reader::StepReader;
 use super::{item_amount, item_name, parse_name, read_amount};
@@ -62,18 +61,18 @@ struct Sending {
 impl StepReader<'_> {
     /// The memo of a transfer, the empty one where the step has none.
     fn memo(&self) -> Result<Memo, Fault>
-        ensures memo { IfOk result (λ memo. IsTextIfThere memo (get (codes "memo") (view self.now.object.now))) }
+        ensures memo { IfOk result (λ memo. IsTextIfThere memo (member_at self.now (codes "memo"))) }
         ensures faults { IfErr result IsScriptFault }
     {
         parse_name(self.alloc, text_or_empty(self.object, "memo")?)
     }
 
     fn sending(&self) -> Result<Sending, Fault>
-        ensures channel { IfOk result (λ s. IsText s.channel (get (codes "channel") (view self.now.object.now))) }
-        ensures user { IfOk result (λ s. IsText s.user (get (codes "user") (view self.now.object.now))) }
-        ensures receiver { IfOk result (λ s. IsText s.receiver (get (codes "receiver") (view self.now.object.now))) }
-        ensures memo { IfOk result (λ s. IsTextIfThere s.memo (get (codes "memo") (view self.now.object.now))) }
-        ensures timeouts { IfOk result (λ s. AreFields (timeout_fields s.timeout_height s.timeout_time) (view self.now.object.now)) }
+        ensures channel { IfOk result (λ s. IsText s.channel (member_at self.now (codes "channel"))) }
+        ensures user { IfOk result (λ s. IsText s.user (member_at self.now (codes "user"))) }
+        ensures receiver { IfOk result (λ s. IsText s.receiver (member_at self.now (codes "receiver"))) }
+        ensures memo { IfOk result (λ s. IsTextIfThere s.memo (member_at self.now (codes "memo"))) }
+        ensures timeouts { IfOk result (λ s. HasTimeouts self.now s.timeout_height s.timeout_time) }
         ensures faults { IfErr result IsScriptFault }
     {
         Ok(Sending {
@@ -87,7 +86,7 @@ impl StepReader<'_> {
     }
 
     pub fn transfer(&self) -> Result<PacketDraft, Fault>
-        ensures draft { IfOk result (λ d. IsDraft (codes "Transfer") self.now.names.now (view self.now.object.now) (any_draft.Packet d)) }
+        ensures draft { IfOk result (IsPacketDraft self.now (codes "Transfer")) }
         ensures among { IfOk result (IsPacketAmong (length self.now.names.now)) }
         ensures faults { IfErr result IsScriptFault }
     {
@@ -122,7 +121,7 @@ impl StepReader<'_> {
     }
 
     pub fn transfer_many(&self) -> Result<PacketDraft, Fault>
-        ensures draft { IfOk result (λ d. IsDraft (codes "TransferMany") self.now.names.now (view self.now.object.now) (any_draft.Packet d)) }
+        ensures draft { IfOk result (IsPacketDraft self.now (codes "TransferMany")) }
         ensures among { IfOk result (IsPacketAmong (length self.now.names.now)) }
         ensures faults { IfErr result IsScriptFault }
     {
