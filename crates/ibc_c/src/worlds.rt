@@ -7,6 +7,7 @@ ghost use Rattle.ibc_calls.specs.Gathering.{AreApart, Audits, JoinsLedger};
 ghost use Rattle.ibc_calls.specs.GenesisHandles.{BalanceAdded, BeginsGenesis, ChainAdded};
 ghost use Rattle.ibc_calls.specs.Handles.{freed};
 ghost use Rattle.ibc_calls.specs.WorldHandles.{MakesLedgers, TakesLedger};
+ghost use Rattle.ibc_calls.specs.History.{reply_output};
 
 use ibc_calls::{ReplyCode, number};
 use ibc_handle::Handle;
@@ -97,7 +98,7 @@ pub extern "C" fn ibcw_apply(
     bytes: &mut [u8],
     size: &mut usize,
 ) -> u32
-    ensures { Numbered (AppliesMessage message.now ledger.old.value ledger.new.value (record { told = told.old; bytes = bytes.old; size = size.old }) (record { told = told.new; bytes = bytes.new; size = size.new })) result }
+    ensures { Numbered (AppliesMessage message.now ledger.old.value ledger.new.value (reply_output told.old bytes.old size.old) (reply_output told.new bytes.new size.new)) result }
 {
     number(ibc_calls::apply(alloc, ledger, message, told, bytes, size))
 }
@@ -112,7 +113,7 @@ pub extern "C" fn ibcw_end_block(
     bytes: &mut [u8],
     size: &mut usize,
 ) -> u32
-    ensures { Numbered (EndsBlock next_time ledger.old.value ledger.new.value (record { told = told.old; bytes = bytes.old; size = size.old }) (record { told = told.new; bytes = bytes.new; size = size.new })) result }
+    ensures { Numbered (EndsBlock next_time ledger.old.value ledger.new.value (reply_output told.old bytes.old size.old) (reply_output told.new bytes.new size.new)) result }
 {
     number(ibc_calls::end_block(alloc, ledger, next_time, told, bytes, size))
 }
