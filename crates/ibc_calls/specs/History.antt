@@ -65,6 +65,10 @@ pub record ReplyOutput : Type 0 where
 abbrev pub reply_output : ReplyCode → Text → ℕ → ReplyOutput
 reply_output told bytes size = record { told = told; bytes = bytes; size = size }
 
+-- the bytes that go with an entry's reply are written
+abbrev pub IsReplyWritten : Entry → Text → Text → ℕ → Answer → Type 0
+IsReplyWritten entry old new size answer = IsWritten (reply_bytes entry.reply) old new size answer
+
 abbrev pub WritesReply : Option StampedEntry → ReplyOutput → ReplyOutput → Answer → Type 0
 WritesReply None old new answer = (new ≡ old) × (answer ≡ Err NothingThere)
 WritesReply (Some e) old new answer =

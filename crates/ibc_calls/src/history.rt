@@ -2,7 +2,7 @@
 
 ghost use Rattle.std.specs.Prelude.{◌≡◌, Some};
 ghost use Rattle.ibc_calls.specs.Handles.{IsWritten};
-ghost use Rattle.ibc_calls.specs.History.{IsEventText, TellsEvent, TellsLength, TellsReply, event_code, published_in, reply_bytes, reply_code, reply_output, event_output, IsEventGiven};
+ghost use Rattle.ibc_calls.specs.History.{IsEventText, TellsEvent, TellsLength, TellsReply, event_code, published_in, reply_bytes, reply_code, reply_output, event_output, IsEventGiven, IsReplyWritten};
 ghost use Rattle.ibc_calls.specs.Events.{IsReplyGiven};
 
 use crate::Refused;
@@ -133,7 +133,7 @@ fn tell(
     size: &mut usize,
 ) -> Result<(), Refused>
     ensures told { told.new ≡ reply_code stamped.now.entry.reply }
-    ensures bytes { IsWritten (reply_bytes stamped.now.entry.reply) bytes.old bytes.new size.new result }
+    ensures bytes { IsReplyWritten stamped.now.entry bytes.old bytes.new size.new result }
 {
     write_reply(&stamped.entry.reply, told, bytes, size)
 }
