@@ -2,8 +2,9 @@
 
 ghost use Rattle.std.specs.Prelude.{◌≡◌};
 ghost use Rattle.ibc_calls.specs.CallAnswers.{Numbered};
-ghost use Rattle.ibc_calls.specs.PacketReads.{FindsAck, FindsCarriedAck, FindsCarriedPacket, FindsPart, FindsSent, TellsPacket};
+ghost use Rattle.ibc_calls.specs.PacketReads.{FindsAck, FindsCarriedAck, FindsPart, FindsSent, TellsPacket};
 ghost use Rattle.ibc_c.specs.Codes.{NumbersFound};
+ghost use Rattle.ibc_c.specs.NumberedCalls.{NumbersCarriedPacket};
 
 use ibc_calls::{PacketNumbers, number};
 use ibc_handle::Handle;
@@ -17,7 +18,7 @@ pub extern "C" fn ibcw_message_packet(
     packet: &mut [u8],
     size: &mut usize,
 ) -> u32
-    ensures { NumbersFound (FindsCarriedPacket message.now) packet.old packet.new size.old size.new result }
+    ensures { NumbersCarriedPacket message.now packet.old packet.new size.old size.new result }
 {
     number(ibc_calls::message_packet(alloc, message, packet, size))
 }

@@ -3,11 +3,12 @@
 ghost use Rattle.std.specs.Prelude.{◌≡◌};
 ghost use Rattle.ibc_calls.specs.CallAnswers.{Numbered};
 ghost use Rattle.ibc_calls.specs.ChannelReads.{TellsTotals};
-ghost use Rattle.ibc_calls.specs.Holdings.{FindsHolding, MakesBalances, TellsHolding, TellsHoldingCount};
+ghost use Rattle.ibc_calls.specs.Holdings.{FindsHolding, TellsHolding, TellsHoldingCount};
 ghost use Rattle.ibc_calls.specs.History.{TellsEvent, TellsLength, TellsReply, reply_output, event_output};
 ghost use Rattle.ibc_calls.specs.ViewProofs.{FindsProved};
-ghost use Rattle.ibc_calls.specs.Reads.{FindsValue, TellsBalance, TellsEscrow, TellsSupply};
+ghost use Rattle.ibc_calls.specs.Reads.{TellsSupply};
 ghost use Rattle.ibc_c.specs.Codes.{NumbersFound};
+ghost use Rattle.ibc_c.specs.NumberedCalls.{NumbersBalances, NumbersBalance, NumbersEscrow, NumbersValue};
 
 use ibc_calls::{Amount, ChannelTotals, EventCode, ReplyCode, number};
 use ibc_handle::Handle;
@@ -64,7 +65,7 @@ pub extern "C" fn ibcw_query(
     size: &mut usize,
 ) -> u32
     ensures kept { ledger.new.value ≡ ledger.old.value }
-    ensures found { NumbersFound (FindsValue path.now ledger.old.value) value.old value.new size.old size.new result }
+    ensures found { NumbersValue path.now ledger.old.value value.old value.new size.old size.new result }
 {
     number(ibc_calls::query(alloc, ledger, path, value, size))
 }
@@ -93,7 +94,7 @@ pub extern "C" fn ibcw_make_balances(
     balances: &mut Handle,
 ) -> u32
     ensures kept { ledger.new.value ≡ ledger.old.value }
-    ensures made { Numbered (MakesBalances ledger.old.value balances.old.value balances.new.value) result }
+    ensures made { NumbersBalances ledger.old.value balances.old.value balances.new.value result }
 {
     number(ibc_calls::make_balances(alloc, ledger, balances))
 }
@@ -153,7 +154,7 @@ pub extern "C" fn ibcw_balance(
     amount: &mut Amount,
 ) -> u32
     ensures kept { ledger.new.value ≡ ledger.old.value }
-    ensures told { Numbered (TellsBalance user.now denom.now ledger.old.value amount.old amount.new) result }
+    ensures told { NumbersBalance user.now denom.now ledger.old.value amount.old amount.new result }
 {
     number(ibc_calls::balance(alloc, ledger, user, denom, amount))
 }
@@ -168,7 +169,7 @@ pub extern "C" fn ibcw_escrow(
     amount: &mut Amount,
 ) -> u32
     ensures kept { ledger.new.value ≡ ledger.old.value }
-    ensures told { Numbered (TellsEscrow channel.now denom.now ledger.old.value amount.old amount.new) result }
+    ensures told { NumbersEscrow channel.now denom.now ledger.old.value amount.old amount.new result }
 {
     number(ibc_calls::escrow(alloc, ledger, channel, denom, amount))
 }
