@@ -16,20 +16,20 @@ use Rattle.ibc_calls.specs.WorldHandles.{MakesLedgers, TakesLedger}
 -- ---- of worlds
 
 -- a balance is added to the last chain of a genesis, told by its upper and its lower 64 bits
-abbrev pub NumbersBalanceAdded : Text → Text → ℕ → ℕ → Option HandleValue → Option HandleValue → ℕ → Type 0
-NumbersBalanceAdded user denom high low old new number = Numbered (BalanceAdded user denom (high * 2 ^ 64 + low) old new) number
+abbrev pub NumbersNewBalance : Text → Text → ℕ → ℕ → Option HandleValue → Option HandleValue → ℕ → Type 0
+NumbersNewBalance user denom high low old new number = Numbered (BalanceAdded user denom (high * 2 ^ 64 + low) old new) number
 
 -- the ledgers of a genesis are made
 abbrev pub NumbersLedgers : ℕ → Option HandleValue → Option HandleValue → Option HandleValue → ℕ → Type 0
 NumbersLedgers world genesis old new number = Numbered (MakesLedgers world genesis old new) number
 
 -- the first ledger is taken out
-abbrev pub NumbersTaken : Option HandleValue → Option HandleValue → Option HandleValue → Option HandleValue → ℕ → Type 0
-NumbersTaken ledgers ledgers' old new number = Numbered (TakesLedger ledgers ledgers' old new) number
+abbrev pub NumbersTake : Option HandleValue → Option HandleValue → Option HandleValue → Option HandleValue → ℕ → Type 0
+NumbersTake ledgers ledgers' old new number = Numbered (TakesLedger ledgers ledgers' old new) number
 
 -- a ledger comes back to the others
-abbrev pub NumbersJoined : Option HandleValue → Option HandleValue → Option HandleValue → Option HandleValue → ℕ → Type 0
-NumbersJoined ledgers ledgers' old new number = Numbered (JoinsLedger ledgers ledgers' old new) number
+abbrev pub NumbersJoin : Option HandleValue → Option HandleValue → Option HandleValue → Option HandleValue → ℕ → Type 0
+NumbersJoin ledgers ledgers' old new number = Numbered (JoinsLedger ledgers ledgers' old new) number
 
 -- the ledgers are audited
 abbrev pub NumbersAudit : Option HandleValue → Option HandleValue → Option HandleValue → Option HandleValue → ℕ → Type 0
@@ -54,16 +54,16 @@ abbrev pub NumbersPlan : Option HandleValue → Option HandleValue → Option Ha
 NumbersPlan from to old new number = Numbered (MakesPlan from to old new) number
 
 -- the value at a path is written
-abbrev pub NumbersValue : Text → Option HandleValue → Text → Text → ℕ → ℕ → ℕ → Type 0
-NumbersValue path ledger old new size size' number = Numbered (Finds (FindsValue path ledger) old new size size') number
+abbrev pub NumbersRead : Text → Option HandleValue → Text → Text → ℕ → ℕ → ℕ → Type 0
+NumbersRead path ledger old new size size' number = Numbered (Finds (FindsValue path ledger) old new size size') number
 
 -- the proof of a path is written
 abbrev pub NumbersProof : Text → Option HandleValue → Text → Text → ℕ → ℕ → ℕ → Type 0
 NumbersProof path view old new size size' number = Numbered (Finds (FindsProof path view) old new size size') number
 
 -- the message at an index of a plan is written
-abbrev pub NumbersMessage : ℕ → Option HandleValue → Text → Text → ℕ → ℕ → ℕ → Type 0
-NumbersMessage index plan old new size size' number = Numbered (Finds (FindsMessage index plan) old new size size') number
+abbrev pub NumbersOwed : ℕ → Option HandleValue → Text → Text → ℕ → ℕ → ℕ → Type 0
+NumbersOwed index plan old new size size' number = Numbered (Finds (FindsMessage index plan) old new size size') number
 
 -- the packet that a message brings is written
 abbrev pub NumbersCarriedPacket : Text → Text → Text → ℕ → ℕ → ℕ → Type 0

@@ -8,7 +8,7 @@ ghost use Rattle.ibc_calls.specs.History.{TellsEvent, TellsLength, TellsReply, r
 ghost use Rattle.ibc_calls.specs.ViewProofs.{FindsProved};
 ghost use Rattle.ibc_calls.specs.Reads.{TellsSupply};
 ghost use Rattle.ibc_c.specs.Codes.{NumbersFound};
-ghost use Rattle.ibc_c.specs.NumberedCalls.{NumbersBalances, NumbersBalance, NumbersEscrow, NumbersValue};
+ghost use Rattle.ibc_c.specs.NumberedCalls.{NumbersBalances, NumbersBalance, NumbersEscrow, NumbersRead};
 
 use ibc_calls::{Amount, ChannelTotals, EventCode, ReplyCode, number};
 use ibc_handle::Handle;
@@ -65,7 +65,7 @@ pub extern "C" fn ibcw_query(
     size: &mut usize,
 ) -> u32
     ensures kept { ledger.new.value ≡ ledger.old.value }
-    ensures found { NumbersValue path.now ledger.old.value value.old value.new size.old size.new result }
+    ensures found { NumbersRead path.now ledger.old.value value.old value.new size.old size.new result }
 {
     number(ibc_calls::query(alloc, ledger, path, value, size))
 }

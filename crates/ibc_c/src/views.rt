@@ -4,7 +4,7 @@ ghost use Rattle.std.specs.Prelude.{◌≡◌};
 ghost use Rattle.ibc_calls.specs.CallAnswers.{Numbered};
 ghost use Rattle.ibc_calls.specs.Views.{FindsRoot, MakesView, SharesView, TellsHeights};
 ghost use Rattle.ibc_c.specs.Codes.{NumbersFound};
-ghost use Rattle.ibc_c.specs.NumberedCalls.{NumbersPlan, NumbersProof, NumbersMessage};
+ghost use Rattle.ibc_c.specs.NumberedCalls.{NumbersPlan, NumbersProof, NumbersOwed};
 
 use ibc_calls::{ViewHeights, number};
 use ibc_handle::Handle;
@@ -95,7 +95,7 @@ pub extern "C" fn ibcw_plan_message(
     size: &mut usize,
 ) -> u32
     ensures kept { plan.new.value ≡ plan.old.value }
-    ensures found { NumbersMessage index plan.old.value message.old message.new size.old size.new result }
+    ensures found { NumbersOwed index plan.old.value message.old message.new size.old size.new result }
 {
     number(ibc_calls::plan_message(alloc, plan, index, message, size))
 }

@@ -7,7 +7,7 @@ ghost use Rattle.ibc_calls.specs.Gathering.{AreApart};
 ghost use Rattle.ibc_calls.specs.GenesisHandles.{BeginsGenesis, ChainAdded};
 ghost use Rattle.ibc_calls.specs.Handles.{freed};
 ghost use Rattle.ibc_calls.specs.History.{reply_output};
-ghost use Rattle.ibc_c.specs.NumberedCalls.{NumbersBalanceAdded, NumbersLedgers, NumbersTaken, NumbersJoined, NumbersAudit};
+ghost use Rattle.ibc_c.specs.NumberedCalls.{NumbersNewBalance, NumbersLedgers, NumbersTake, NumbersJoin, NumbersAudit};
 
 use ibc_calls::{ReplyCode, number};
 use ibc_handle::Handle;
@@ -44,7 +44,7 @@ pub extern "C" fn ibcw_add_balance(
     high: u64,
     low: u64,
 ) -> u32
-    ensures { NumbersBalanceAdded user.now denom.now high low genesis.old.value genesis.new.value result }
+    ensures { NumbersNewBalance user.now denom.now high low genesis.old.value genesis.new.value result }
 {
     number(ibc_calls::add_balance(alloc, genesis, user, denom, high, low))
 }
@@ -66,7 +66,7 @@ pub extern "C" fn ibcw_make_numbered_ledgers(
 /// Moves the first of the ledgers to an empty handle. As `take_ledger`.
 #[unsafe(no_mangle)]
 pub extern "C" fn ibcw_take_ledger(alloc: Global, ledgers: &mut Handle, ledger: &mut Handle) -> u32
-    ensures { NumbersTaken ledgers.old.value ledgers.new.value ledger.old.value ledger.new.value result }
+    ensures { NumbersTake ledgers.old.value ledgers.new.value ledger.old.value ledger.new.value result }
 {
     number(ibc_calls::take_ledger(alloc, ledgers, ledger))
 }
@@ -75,7 +75,7 @@ pub extern "C" fn ibcw_take_ledger(alloc: Global, ledgers: &mut Handle, ledger: 
 #[unsafe(no_mangle)]
 pub extern "C" fn ibcw_join_ledger(alloc: Global, ledgers: &mut Handle, ledger: &mut Handle) -> u32
     requires { AreApart ledgers.old.value ledger.old.value }
-    ensures { NumbersJoined ledgers.old.value ledgers.new.value ledger.old.value ledger.new.value result }
+    ensures { NumbersJoin ledgers.old.value ledgers.new.value ledger.old.value ledger.new.value result }
 {
     number(ibc_calls::join_ledger(alloc, ledgers, ledger))
 }
