@@ -45,8 +45,8 @@ abbrev pub AreNames : Text → Text → Type 0
 AreNames user denom = IsTrue (is_user user) × IsTrue (is_denom denom)
 
 -- these names, which are of their kinds
-abbrev pub AreNamesOf : Text → Text → Text × Text → Type 0
-AreNamesOf user denom names = (names.0 ≡ user) × (names.1 ≡ denom) × AreNames user denom
+abbrev pub AreUserAndDenom : Text → Text → Text × Text → Type 0
+AreUserAndDenom user denom names = (names.0 ≡ user) × (names.1 ≡ denom) × AreNames user denom
 
 -- The last chain has a balance more; or it is refused and nothing has changed: there is no chain, a name is none of its kind, or
 -- memory ran out.

@@ -2,7 +2,7 @@
 
 ghost use Rattle.std.specs.Prelude.{◌≡◌, Some, IfOk, IfErr, OnOk, OnErr};
 ghost use Rattle.ibc_machine.specs.chain.Genesis.{genesis_state};
-ghost use Rattle.ibc_calls.specs.GenesisHandles.{AddsBalance, AddsChain, AreNames, BeginsGenesis, ChainAdded, GenesisGoesOn, AreNamesOf, IsBalanceAdded, AddsBalanceTo, AddsHolding};
+ghost use Rattle.ibc_calls.specs.GenesisHandles.{AddsBalance, AddsChain, AreNames, BeginsGenesis, ChainAdded, GenesisGoesOn, AreUserAndDenom, IsBalanceAdded, AddsBalanceTo, AddsHolding};
 ghost use Rattle.ibc_calls.specs.CallAnswers.{IsNameRefused};
 
 use crate::Refused;
@@ -144,7 +144,7 @@ pub(crate) fn names_of(
     user: &[u8],
     denom: &[u8],
 ) -> Result<(UserName, Denom), Refused>
-    ensures ok { IfOk result (λ names. AreNamesOf user.now denom.now names) }
+    ensures ok { IfOk result (λ names. AreUserAndDenom user.now denom.now names) }
     ensures err { IfErr result (λ refused. IsNameRefused (AreNames user.now denom.now) refused) }
 {
     let user = UserName::from_bytes(alloc, user)?;
