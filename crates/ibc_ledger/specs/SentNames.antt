@@ -55,9 +55,9 @@ packet_to port channel n end peer c = record {
   payload = c.payload;
 }
 
--- a call gives the packet that an event sent from an end to the peer of this name, or none where it sent none
-abbrev pub IsPacketIn : Event → Text → Text → ℕ → ChannelEnd → Text → Result (Option Packet) Refusal → Type 0
-IsPacketIn event port channel n end peer result =
+-- a call gives the packet that an event sent from an end to the peer of this name, or none; or it fails
+abbrev pub IsPacketOfEvent : Event → Text → Text → ℕ → ChannelEnd → Text → Result (Option Packet) Refusal → Type 0
+IsPacketOfEvent event port channel n end peer result =
     IfOk result (λ packet. packet ≡ option_map (λ c. packet_to port channel n end peer c) (commitment_in event))
 
 -- the end from which a message sends

@@ -3,7 +3,7 @@
 ghost use Rattle.std.specs.Prelude.{◌≡◌, Some, IfOk, IsOkUnless};
 ghost use Rattle.ibc_ids.specs.declared.refusal.Refusal.TheVariants.{NoMemory};
 ghost use Rattle.ibc_wire.specs.declared.messages.Message.TheVariants as message;
-ghost use Rattle.ibc_ledger.specs.SentNames.{commitment_by, commitment_in, packet_to, IsPacketIn};
+ghost use Rattle.ibc_ledger.specs.SentNames.{commitment_by, commitment_in, packet_to, IsPacketOfEvent};
 
 use ibc_ids::{ChannelId, PortId, Refusal, Version};
 use ibc_machine::Event;
@@ -23,7 +23,7 @@ pub fn packet_in(
     end: &ChannelEnd,
     peer: &ChannelId,
 ) -> Result<Option<Packet>, Refusal>
-    ensures ok { IsPacketIn event.now port.now channel.now sequence end.now peer.now result }
+    ensures ok { IsPacketOfEvent event.now port.now channel.now sequence end.now peer.now result }
     ensures err { IsOkUnless result NoMemory }
 {
     let Some(commitment) = commitment_in(alloc, event)? else {
