@@ -8,7 +8,7 @@ use ibc_ledger_lock::{Chain, UnusedBook, WorldBrand};
 use ibc_race::begin;
 use ibc_script::{ChainName, Fault, Script, Step};
 use ibc_script_cli::Runner;
-use ibc_script_worlds::{Shared, shared_chains};
+use ibc_script_races::{Shared, shared_chains};
 use std::alloc::{AllocError, Global};
 use std::io;
 use std::marker::Brand;
