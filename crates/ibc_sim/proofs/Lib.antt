@@ -1,1 +1,4 @@
+pub mod FirstFindings
+pub mod FoundItems
 pub mod KeptSteps
+pub mod ScriptLines

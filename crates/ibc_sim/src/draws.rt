@@ -1,6 +1,6 @@
 //! Numbers that look random, and are the same in each run.
 
-ghost use Rattle.std.specs.Prelude.{◌≡◌, ◌<◌, ◌%◌, ◌==◌, MatchOption};
+ghost use Rattle.std.specs.Prelude.{◌≡◌, ◌<◌, ◌%◌, ◌==◌, IfNone, IfSome, MatchOption, OnSome};
 ghost use Rattle.rand_core.specs.Stream.{next_u64};
 ghost use Rattle.rand_xoshiro.specs.SplitMix64.{splitmix_seed};
 ghost use Rattle.rand_xoshiro.specs.Xoshiro256.{of_seed};
@@ -51,9 +51,12 @@ impl Draws {
         self.number() % bound
     }
 
-    /// A place in a list of so many items, none where it has none.
+    /// A place in a list of so many items; none where it has none, and then no number is drawn.
     pub fn place(&mut self, count: usize) -> Option<usize>
-        ensures { MatchOption result (count ≡ 0) (λ place. place < count) }
+        ensures within { MatchOption result (count ≡ 0) (λ place. place < count) }
+        ensures value { IfSome result (λ place. place ≡ (next_u64 (answers self.old)).0 % count) }
+        ensures rest { OnSome result (answers self.new ≡ (next_u64 (answers self.old)).1) }
+        ensures same { IfNone result (self.new ≡ self.old) }
     {
         if count == 0 {
             return None;
@@ -64,7 +67,8 @@ impl Draws {
     /// Whether what happens once in so many times happens now.
     pub fn is_one_in(&mut self, times: u64) -> bool
         requires { 0 < times }
-        ensures { result ≡ ((next_u64 (answers self.old)).0 % times == 0) }
+        ensures value { result ≡ ((next_u64 (answers self.old)).0 % times == 0) }
+        ensures rest { answers self.new ≡ (next_u64 (answers self.old)).1 }
     {
         self.below(times) == 0
     }

@@ -1,5 +1,8 @@
 //! Packets that aren't settled.
 
+ghost use Rattle.std.specs.Prelude.{◌≡◌, ◌==◌, ◌++◌, ◌∷◌, [], OnErr, OnOk, find, position};
+ghost use Rattle.ibc_sim.specs.Flights.{found_flight, is_flight, with_arrived, without_flight};
+
 use std::alloc::{AllocError, Global};
 
 /// A packet: the place of the end that sent it, the chain that is to receive it, its sequence, and its timeouts.
@@ -22,7 +25,10 @@ pub struct Flights {
 
 impl Flights {
     /// Nothing was sent yet.
-    pub fn new(alloc: Global) -> Flights {
+    pub fn new(alloc: Global) -> Flights
+        ensures on_the_way { result.on_the_way.items ≡ [] }
+        ensures received { result.received.items ≡ [] }
+    {
         Flights {
             on_the_way: Vec::new(alloc),
             received: Vec::new(alloc),
@@ -30,53 +36,69 @@ impl Flights {
     }
 
     /// Notes a packet that was sent. Error: no memory.
-    pub fn depart(&mut self, flight: Flight) -> Result<(), AllocError> {
+    pub fn depart(&mut self, flight: Flight) -> Result<(), AllocError>
+        ensures on_the_way { OnOk result (self.new.on_the_way.items ≡ self.old.on_the_way.items ++ flight ∷ []) }
+        ensures err { OnErr result (self.new.on_the_way.items ≡ self.old.on_the_way.items) }
+        ensures received { self.new.received ≡ self.old.received }
+    {
         self.on_the_way.push(flight)?;
         Ok(())
     }
 
-    /// Notes that the packet of an end and a sequence was received. Error: no memory.
-    pub fn arrive(&mut self, end: usize, sequence: u64) -> Result<(), AllocError> {
-        if let Some(flight) = taken_out(&mut self.on_the_way, end, sequence) {
-            self.received.push(flight)?;
+    /// Notes that the packet of an end and a sequence was received, where it was on the way. Error: no memory.
+    pub fn arrive(&mut self, end: usize, sequence: u64) -> Result<(), AllocError>
+        ensures on_the_way { self.new.on_the_way.items ≡ without_flight end sequence self.old.on_the_way.items }
+        ensures received { OnOk result (self.new.received.items ≡ with_arrived end sequence self.old.on_the_way.items self.old.received.items) }
+    {
+        match taken_out(&mut self.on_the_way, end, sequence) {
+            Some(flight) => {
+                self.received.push(flight)?;
+                Ok(())
+            }
+            None => Ok(()),
         }
-        Ok(())
     }
 
     /// Notes that the packet of an end and a sequence is settled.
-    pub fn settle(&mut self, end: usize, sequence: u64) {
+    pub fn settle(&mut self, end: usize, sequence: u64)
+        ensures on_the_way { self.new.on_the_way.items ≡ without_flight end sequence self.old.on_the_way.items }
+        ensures received { self.new.received.items ≡ without_flight end sequence self.old.received.items }
+    {
         let _late = taken_out(&mut self.on_the_way, end, sequence);
         let _acknowledged = taken_out(&mut self.received, end, sequence);
     }
 }
 
 // Takes the packet of an end and a sequence out of a list, where it is there.
-fn taken_out(flights: &mut Vec<Flight>, end: usize, sequence: u64) -> Option<Flight> {
-    let place = place_of(flights.as_slice(), end, sequence);
-    if place < flights.len() {
-        Some(flights.remove(place))
-    } else {
-        None
+fn taken_out(flights: &mut Vec<Flight>, end: usize, sequence: u64) -> Option<Flight>
+    ensures taken { result ≡ found_flight end sequence flights.old.items }
+    ensures rest { flights.new.items ≡ without_flight end sequence flights.old.items }
+{
+    match place_of(flights.as_slice(), end, sequence) {
+        Some(place) => Some(flights.remove(place)),
+        None => None,
     }
 }
 
-// The place of the packet of an end and a sequence; the list's length where it isn't there.
-fn place_of(flights: &[Flight], end: usize, sequence: u64) -> usize {
-    for place in 0..flights.len() {
-        let flight = &flights[place];
-        if flight.end == end && flight.sequence == sequence {
-            return place;
-        }
-    }
-    flights.len()
+// The place of the first packet of an end and a sequence.
+fn place_of(flights: &[Flight], end: usize, sequence: u64) -> Option<usize>
+    ensures { result ≡ position (is_flight end sequence) flights.now }
+{
+    flights
+        .iter()
+        .position(|flight| is_flight(flight, end, sequence))
+}
+
+// Whether a packet is that of an end and a sequence.
+fn is_flight(flight: &Flight, end: usize, sequence: u64) -> bool
+    ensures { result ≡ is_flight end sequence flight.now }
+{
+    flight.end == end && flight.sequence == sequence
 }
 
 /// The first packet of an end in a list.
-pub fn first_of_end(flights: &[Flight], end: usize) -> Option<Flight> {
-    for flight in flights {
-        if flight.end == end {
-            return Some(*flight);
-        }
-    }
-    None
+pub fn first_of_end(flights: &[Flight], end: usize) -> Option<Flight>
+    ensures { result ≡ find (λ flight. flight.end == end) flights.now }
+{
+    flights.iter().copied().find(|flight| flight.end == end)
 }

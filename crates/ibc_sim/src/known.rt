@@ -1,5 +1,8 @@
 //! What the replies of a run have told of its clients, connections and ends of channels.
 
+ghost use Rattle.std.specs.Prelude.{◌≡◌};
+ghost use Rattle.ibc_sim.specs.KnownEnds.{has_several_at};
+
 use ibc_ids::{ClientId, ConnectionId, Version};
 use ibc_machine::{Effect, Entry, Event, Reply};
 use ibc_wire::Message;
@@ -122,11 +125,10 @@ impl Known {
     }
 
     /// Whether a packet from an end of a channel may have several tokens.
-    pub fn takes_several(&self, end: usize) -> bool {
-        match self.ends.get(end) {
-            Some(known) => known.takes_several,
-            None => false,
-        }
+    pub fn takes_several(&self, end: usize) -> bool
+        ensures { result ≡ has_several_at self.now.ends.items end }
+    {
+        has_several_at(self.ends.as_slice(), end)
     }
 
     /// The client of an end of a channel.
@@ -144,6 +146,16 @@ impl Known {
             Some(client) => Some(client.of),
             None => None,
         }
+    }
+}
+
+// Whether a packet from the end at a place may have several tokens.
+fn has_several_at(ends: &[KnownEnd], end: usize) -> bool
+    ensures { result ≡ has_several_at ends.now end }
+{
+    match ends.get(end) {
+        Some(known) => known.takes_several,
+        None => false,
     }
 }
 

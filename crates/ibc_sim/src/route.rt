@@ -1,5 +1,7 @@
 //! Ends of channels with their peers, and what a step has to say of them.
 
+ghost use Rattle.std.specs.Prelude.{◌≡◌, min};
+
 use crate::checked::Checked;
 use crate::step_text::StepText;
 use ibc_law_checks::EndNotes;
@@ -21,7 +23,9 @@ pub struct Route {
 }
 
 /// How many of so many ends belong to the channels that a script opens first.
-pub fn first_ends(count: usize) -> usize {
+pub fn first_ends(count: usize) -> usize
+    ensures { result ≡ min count FIRST_ENDS }
+{
     count.min(FIRST_ENDS)
 }
 

@@ -1,5 +1,9 @@
 //! What is noted of a run, event by event.
 
+ghost use Rattle.std.specs.Prelude.{◌≡◌, IfOk, IsSome, None, OnOk};
+ghost use Rattle.std.specs.Option.{option_or};
+ghost use Rattle.ibc_sim.specs.Findings.{KeepsToldOf, KeepsTokensTold};
+
 use crate::counts::AnswerCounts;
 use crate::flights::{Flight, Flights};
 use crate::known::Known;
@@ -47,7 +51,9 @@ fn last_in(history: &[StampedEntry]) -> Option<&Entry> {
 
 impl RunNotes {
     /// What is noted of a run that has just begun with this genesis. Error: no memory.
-    pub fn new(alloc: Global, genesis: &Genesis) -> Result<RunNotes, AllocError> {
+    pub fn new(alloc: Global, genesis: &Genesis) -> Result<RunNotes, AllocError>
+        ensures { IfOk result (λ notes. notes.finding ≡ None) }
+    {
         let checks = LawChecks::new(alloc, genesis)?;
         let counts = AnswerCounts::new(alloc)?;
         Ok(RunNotes {
@@ -59,14 +65,10 @@ impl RunNotes {
         })
     }
 
-    /// Notes what a chain has answered, and looks at the entry that came with it. Refused: `NoMemory`.
-    pub fn note(
-        &mut self,
-        world: &World,
-        chain: u8,
-        tag: u8,
-        reply: &Reply,
-    ) -> Result<(), Refusal> {
+    /// Notes what a chain has answered, and looks at the entry that came with it. What was found before stays. Refused: `NoMemory`.
+    pub fn note(&mut self, world: &World, chain: u8, tag: u8, reply: &Reply) -> Result<(), Refusal>
+        ensures { OnOk result (IsSome self.old.finding → self.new.finding ≡ self.old.finding) }
+    {
         self.counts.add(tag, reply);
         match reply {
             Reply::No(Refusal::NoMemory) => Err(Refusal::NoMemory),
@@ -76,7 +78,9 @@ impl RunNotes {
     }
 
     // Looks at the last entry of a chain.
-    fn look(&mut self, world: &World, chain: u8) -> Result<(), Refusal> {
+    fn look(&mut self, world: &World, chain: u8) -> Result<(), Refusal>
+        ensures { OnOk result (IsSome self.old.finding → self.new.finding ≡ self.old.finding) }
+    {
         let Some(ledger) = world.ledger(chain) else {
             return Ok(());
         };
@@ -87,9 +91,19 @@ impl RunNotes {
     }
 
     // Looks at an entry of a chain, which has just come.
-    fn look_at(&mut self, world: &World, chain: u8, entry: &Entry) -> Result<(), Refusal> {
+    fn look_at(&mut self, world: &World, chain: u8, entry: &Entry) -> Result<(), Refusal>
+        ensures told { OnOk result (KeepsToldOf world.now entry.now self.old self.new.finding) }
+        ensures first { OnOk result (IsSome self.old.finding → self.new.finding ≡ self.old.finding) }
+    {
         let found = self.checks.look(world, chain, entry)?;
         self.keep(found);
+        self.note_entry(world, chain, entry)
+    }
+
+    // Notes what an entry has made, and the packet that it sent or moved.
+    fn note_entry(&mut self, world: &World, chain: u8, entry: &Entry) -> Result<(), Refusal>
+        ensures { self.new.finding ≡ self.old.finding }
+    {
         self.known.look(chain, entry)?;
         match (&entry.event, &entry.reply) {
             (Event::Message { message, .. }, Reply::Ok(Effect::Sent(sequence))) => {
@@ -103,23 +117,28 @@ impl RunNotes {
     }
 
     // Keeps what was found, where it is the first.
-    fn keep(&mut self, found: Option<Finding>) {
-        if self.finding.is_none() {
-            self.finding = found;
-        } else {
-            drop(found);
+    fn keep(&mut self, found: Option<Finding>)
+        ensures { self.new.finding ≡ option_or self.old.finding found }
+    {
+        match self.finding {
+            Some(_) => drop(found),
+            None => self.finding = found,
         }
     }
 
-    /// Looks at all that can be looked at now. Refused: `NoMemory`.
-    pub fn look_at_all(&mut self, world: &World) -> Result<(), Refusal> {
+    /// Looks at all that can be looked at now. What was found before stays. Refused: `NoMemory`.
+    pub fn look_at_all(&mut self, world: &World) -> Result<(), Refusal>
+        ensures { OnOk result (KeepsTokensTold world.now self.old self.new.finding) }
+    {
         let found = self.checks.look_at_all(world)?;
         self.keep(found);
         Ok(())
     }
 
     // Notes the packet that a message sent.
-    fn note_sent(&mut self, chain: u8, message: &Message, sequence: u64) -> Result<(), Refusal> {
+    fn note_sent(&mut self, chain: u8, message: &Message, sequence: u64) -> Result<(), Refusal>
+        ensures { self.new.finding ≡ self.old.finding }
+    {
         match message {
             Message::Transfer(message) => {
                 let timeouts = Timeouts::of(message.timeout_height, message.timeout_time);
@@ -145,7 +164,9 @@ impl RunNotes {
         channel: &ChannelId,
         sequence: u64,
         timeouts: Timeouts,
-    ) -> Result<(), Refusal> {
+    ) -> Result<(), Refusal>
+        ensures { self.new.finding ≡ self.old.finding }
+    {
         let Some(end) = place_of_end(self.checks.ends.as_slice(), chain, port, channel) else {
             return Ok(());
         };
@@ -163,38 +184,48 @@ impl RunNotes {
     }
 
     // Notes the packet that a message moved.
-    fn note_moved(&mut self, world: &World, chain: u8, message: &Message) -> Result<(), Refusal> {
+    fn note_moved(&mut self, world: &World, chain: u8, message: &Message) -> Result<(), Refusal>
+        ensures { self.new.finding ≡ self.old.finding }
+    {
         if let Some(packet) = received_by(message) {
             return self.note_received(world, chain, packet);
         }
         if let Some(packet) = acknowledged_by(message) {
             self.note_settled(chain, packet);
+            return Ok(());
         }
         if let Some(packet) = timed_out_by(message) {
             self.note_settled(chain, packet);
+            return Ok(());
         }
         Ok(())
     }
 
     // Notes a packet that a chain received.
-    fn note_received(&mut self, world: &World, chain: u8, packet: &Packet) -> Result<(), Refusal> {
+    fn note_received(&mut self, world: &World, chain: u8, packet: &Packet) -> Result<(), Refusal>
+        ensures { self.new.finding ≡ self.old.finding }
+    {
         let port = packet.destination_port.as_str();
         let channel = &packet.destination_channel;
         let Some(own) = place_of_end(self.checks.ends.as_slice(), chain, port, channel) else {
             return Ok(());
         };
-        if let Some(peer) = self.checks.peer_of(world, own)? {
-            self.flights.arrive(peer, packet.sequence)?;
-        }
+        let Some(peer) = self.checks.peer_of(world, own)? else {
+            return Ok(());
+        };
+        self.flights.arrive(peer, packet.sequence)?;
         Ok(())
     }
 
     // Notes a packet of a chain that is settled.
-    fn note_settled(&mut self, chain: u8, packet: &Packet) {
+    fn note_settled(&mut self, chain: u8, packet: &Packet)
+        ensures { self.new.finding ≡ self.old.finding }
+    {
         let port = packet.source_port.as_str();
         let channel = &packet.source_channel;
-        if let Some(end) = place_of_end(self.checks.ends.as_slice(), chain, port, channel) {
-            self.flights.settle(end, packet.sequence);
-        }
+        let Some(end) = place_of_end(self.checks.ends.as_slice(), chain, port, channel) else {
+            return;
+        };
+        self.flights.settle(end, packet.sequence);
     }
 }

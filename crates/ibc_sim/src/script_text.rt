@@ -1,5 +1,8 @@
 //! Random scripts as texts.
 
+ghost use Rattle.std.specs.Prelude.{◌≡◌, ◌++◌, IfOk, OnOk, if◌then◌else◌, false, map, string_bytes};
+ghost use Rattle.ibc_sim.specs.ScriptTexts.{before_step, is_kept_at, kept_steps, line_if, script_of, with_step};
+
 use crate::draws::Draws;
 use crate::names::{TOKENS, USERS, chain_name};
 use std::alloc::{AllocError, Global};
@@ -77,24 +80,53 @@ pub fn script_text(
     head: &str,
     steps: &[String],
     kept: &[bool],
-) -> Result<String, AllocError> {
+) -> Result<String, AllocError>
+    ensures { IfOk result (λ text. string_bytes text ≡ script_of head.now (kept_steps kept.now (map string_bytes steps.now))) }
+{
     let mut text = String::from_str(alloc, head)?;
     let mut is_first = true;
-    for (step, is_kept) in steps.iter().zip(kept) {
-        if *is_kept {
-            add_step(&mut text, is_first, step.as_str())?;
-            is_first = false;
-        }
+    for place in 0..steps.len() {
+        let keeps = is_kept(kept, place);
+        is_first = add_if(&mut text, is_first, keeps, steps[place].as_str())?;
     }
     text.push_str("]}\n")?;
     Ok(text)
 }
 
-// Adds a step, behind a comma unless it is the first.
-fn add_step(text: &mut String, is_first: bool, step: &str) -> Result<(), AllocError> {
-    if !is_first {
-        text.push_str(",")?;
+// Whether the step at a place is kept.
+fn is_kept(kept: &[bool], place: usize) -> bool
+    ensures { result ≡ is_kept_at kept.now place }
+{
+    match kept.get(place) {
+        Some(is_kept) => *is_kept,
+        None => false,
     }
-    text.push_str("\n")?;
+}
+
+// Adds a step, if it is kept. The result is whether the next one is the first.
+fn add_if(text: &mut String, is_first: bool, keeps: bool, step: &str) -> Result<bool, AllocError>
+    ensures first { IfOk result (λ first. first ≡ (if keeps then false else is_first)) }
+    ensures added { OnOk result (string_bytes text.new ≡ string_bytes text.old ++ line_if keeps is_first step.now) }
+{
+    if keeps {
+        add_step(text, is_first, step)?;
+        return Ok(false);
+    }
+    Ok(is_first)
+}
+
+// Adds a step in a line of its own, behind a comma unless it is the first.
+fn add_step(text: &mut String, is_first: bool, step: &str) -> Result<(), AllocError>
+    ensures { OnOk result (string_bytes text.new ≡ string_bytes text.old ++ with_step is_first step.now) }
+{
+    let between = before_step(is_first);
+    text.push_str(between)?;
     text.push_str(step)
+}
+
+// What stands before a step.
+fn before_step(is_first: bool) -> &'static str
+    ensures { result.now ≡ before_step is_first }
+{
+    if is_first { "\n" } else { ",\n" }
 }
