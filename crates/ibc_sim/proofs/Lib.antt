@@ -1,4 +1,1 @@
-pub mod FirstFindings
-pub mod FoundItems
 pub mod KeptSteps
-pub mod ScriptLines

@@ -1,11 +1,5 @@
-pub mod Counts
-pub mod Draws
-pub mod Findings
-pub mod Flights
-pub mod KnownEnds
 pub mod RacedLedgers
 pub mod ReadScripts
-pub mod ScriptTexts
 pub mod ShortScripts
 pub mod Shrinking
 pub mod Simulations

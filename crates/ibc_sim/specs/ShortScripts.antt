@@ -1,7 +1,7 @@
 -- Scripts that fail, as texts.
 use Rattle.std.specs.Prelude.{◌≡◌, Bool, List, count_by, map, string_bytes}
 use Rattle.ibc_ids.specs.Texts.{Text}
-use Rattle.ibc_sim.specs.ScriptTexts.{kept_steps, script_of}
+use Rattle.ibc_random_scripts.specs.ScriptTexts.{kept_steps, script_of}
 use Rattle.ibc_sim.specs.declared.failed_script.FailedScript.{FailedScript}
 use Rattle.ibc_sim.specs.declared.failed_script.ShortScript.{ShortScript}
 

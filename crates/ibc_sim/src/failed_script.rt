@@ -3,9 +3,9 @@
 ghost use Rattle.std.specs.Prelude.{◌≡◌, IfOk, string_bytes, vec_len};
 ghost use Rattle.ibc_sim.specs.ShortScripts.{IsShortened, whole_text};
 
-use crate::script_text::script_text;
 use crate::shrinking::{Broken, all_kept, kept_count, shrunk};
 use ibc_law_checks::Finding;
+use ibc_random_scripts::script_text;
 use ibc_script::Fault;
 use std::alloc::Global;
 

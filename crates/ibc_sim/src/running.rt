@@ -6,8 +6,8 @@ ghost use Rattle.ibc_script_worlds.specs.WorldChains.{IsNewWorld};
 ghost use Rattle.ibc_sim.specs.ReadScripts.{ReadsAsScript};
 
 use crate::checked::Checked;
-use crate::run_notes::RunNotes;
 use ibc_law_checks::Finding;
+use ibc_run_notes::RunNotes;
 use ibc_script::{Fault, Script, Step, read_script};
 use ibc_script_cli::{Runner, Worlds};
 use ibc_script_worlds::{ScriptWorld, WorldFactory};

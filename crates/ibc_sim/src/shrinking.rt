@@ -2,12 +2,12 @@
 
 ghost use Rattle.std.specs.Prelude.{◌≡◌, ◌<◌, IfOk, IsTrue, List, Bool, count_by, map, replicate, string_bytes, true, vec_len, ⊤};
 ghost use Rattle.ibc_sim.specs.ReadScripts.{ReadsAsScript};
-ghost use Rattle.ibc_sim.specs.ScriptTexts.{kept_steps, script_of};
+ghost use Rattle.ibc_random_scripts.specs.ScriptTexts.{kept_steps, script_of};
 ghost use Rattle.ibc_sim.specs.Shrinking.{KeepsNoMore, StillDo};
 
 use crate::running::replay;
-use crate::script_text::script_text;
 use ibc_law_checks::BrokenLaw;
+use ibc_random_scripts::script_text;
 use ibc_script::Fault;
 use std::alloc::{AllocError, Global};
 

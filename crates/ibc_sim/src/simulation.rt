@@ -4,17 +4,14 @@ ghost use Rattle.std.specs.Prelude.{◌≡◌, ◌+◌, ◌-◌, ◌^◌, ◌≤
 ghost use Rattle.ibc_sim.specs.Simulations.{next_seed};
 
 use crate::checked::Checked;
-use crate::counts::AnswerCounts;
-use crate::draws::Draws;
 use crate::failed_script::FailedScript;
 use crate::judging::race_and_judge;
-use crate::maker::Maker;
 use crate::running::{begin, finding_of};
-use crate::script_text::{ScriptStart, empty_head, head, script_text};
 use crate::shrinking::all_kept;
-use crate::weaving::with_relays;
 use crate::writer::Writer;
 use ibc_law_checks::Finding;
+use ibc_random_scripts::{Draws, Maker, ScriptStart, empty_head, head, script_text, with_relays};
+use ibc_run_notes::AnswerCounts;
 use ibc_script::{Fault, read_script};
 use std::alloc::Global;
 use std::sync::Wait;

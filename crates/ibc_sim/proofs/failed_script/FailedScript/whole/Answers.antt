@@ -1,8 +1,8 @@
 -- Where all steps are kept, they are all written.
 use Rattle.std.proofs.Common.{ℕ, List, Bool, true, map, replicate, string_bytes, sym, ap, ap₂, ◌∙◌}
 use Rattle.ibc_ids.specs.Texts.{Text}
-use Rattle.ibc_sim.specs.ScriptTexts.{kept_steps, script_of}
-use Rattle.ibc_sim.proofs.ScriptLines.{all_are_kept}
+use Rattle.ibc_random_scripts.specs.ScriptTexts.{kept_steps, script_of}
+use Rattle.ibc_random_scripts.proofs.ScriptLines.{all_are_kept}
 use Rattle.ibc_sim.proofs.failed_script.FailedScript.whole.Goals as goal
 
 pub returns-clause-text : goal.returns-clause-text

@@ -1,6 +1,6 @@
 -- The steps that are kept are written, and counted.
 use Rattle.std.proofs.Common.{map, string_bytes, ap, ap₂, ◌∙◌}
-use Rattle.ibc_sim.specs.ScriptTexts.{kept_steps, script_of}
+use Rattle.ibc_random_scripts.specs.ScriptTexts.{kept_steps, script_of}
 use Rattle.ibc_sim.proofs.failed_script.FailedScript.with_kept.Goals as goal
 
 pub returns : goal.returns
