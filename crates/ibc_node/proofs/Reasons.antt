@@ -29,7 +29,7 @@ use Rattle.ibc_node.specs.declared.unread.Unread.TheVariants as unread
 use Rattle.ibc_journal.specs.declared.looking.Looks.{Looks}
 use Rattle.ibc_journal.specs.declared.looking.Looks.TheVariants as looks
 use Rattle.ibc_node.specs.Audits.{IsUnreadBy}
-use Rattle.ibc_node.specs.Faults.{fault_of_refusal, fault_at, IsOfRoom, IsUnspelt, IsOfBytes, IsOfEntry, IfFault, IsStopped, IsUnreadAt, IsUnread, IsOfGenesis, IsUnreplayed, IsOfOther, IsUnaudited}
+use Rattle.ibc_node.specs.Faults.{fault_of_refusal, fault_at, IsOfRoom, IsOfBytes, IsOfEntry, IfFault, IsStopped, IsUnreadAt, IsUnread, IsOfGenesis, IsUnreplayed, IsOfOther, IsUnaudited}
 
 -- ---- an entry that is to wait
 

@@ -20,7 +20,6 @@ ghost use Rattle.ibc_node.specs.Faults.{IfFault, IsOfGenesis, IsUnreplayed, IsOf
 use crate::reading::{LogMark, Past, read_all};
 use crate::unread::Unread;
 use crate::{Node, NodeFault};
-use ibc_ids::Refusal;
 use ibc_journal::{Beginning, Cursor, FORMAT, Looks, begin, beginning_of, look};
 use ibc_machine::Genesis;
 use ibc_script::{Fault, Script, read_script};
