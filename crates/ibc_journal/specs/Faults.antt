@@ -20,3 +20,12 @@ IsOfEnding place (Gap at) = at ≡ place
 IsOfEnding place Early = ⊤
 IsOfEnding place Beginnings = ⊥
 IsOfEnding place Full = ⊥
+
+-- of who asks how a journal began: the file can't be read, or the first table hasn't one row
+abbrev pub IsOfBeginning : JournalFault → Type 0
+IsOfBeginning (Sqlite error) = ⊤
+IsOfBeginning (Damaged at) = ⊥
+IsOfBeginning (Gap at) = ⊥
+IsOfBeginning Early = ⊥
+IsOfBeginning Beginnings = ⊤
+IsOfBeginning Full = ⊥

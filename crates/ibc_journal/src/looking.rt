@@ -1,12 +1,13 @@
 //! What a file holds, and how its journal began.
 
-ghost use Rattle.std.specs.Prelude.{◌≡◌, [], ◌∷◌, IfOk, IsTrue, List, OnOk, Some, pos, ℕ, Ok, ⊤};
+ghost use Rattle.std.specs.Prelude.{◌≡◌, [], ◌∷◌, IfErr, IfOk, IsTrue, List, OnOk, Some, pos, ℕ, Ok, ⊤};
 ghost use Rattle.sqlite.specs.State.{HasCleanDisk, IsUnchanged, Survives};
 ghost use Rattle.sqlite.specs.Held.{state};
 ghost use Rattle.ibc_journal.specs.Tables.{no_schema, meta, entries, journal_schema, JournalItem, IsJournal};
 ghost use Rattle.ibc_journal.specs.Shown.{shown_beginning};
 ghost use Rattle.ibc_journal.specs.Plain.{plain_column, AreNumbers, AreBytes, IsPlainColumn, IsPlainTable, HasNoRules, HasPlainDefaults};
 ghost use Rattle.ibc_journal.specs.Crashes.{LeavesNothing};
+ghost use Rattle.ibc_journal.specs.Faults.{IsOfBeginning};
 ghost use Rattle.ibc_journal.specs.declared.looking.Looks.TheVariants.{Empty, Journal};
 
 use crate::JournalFault;
@@ -60,6 +61,7 @@ pub fn look<S: Alter>(alloc: Global, conn: &mut Connection<S>) -> Result<Looks, 
 pub fn beginning_of<S: Alter>(conn: &mut Connection<S>) -> Result<Beginning, JournalFault>
     ensures began { (genesis : List ℕ) (items : List JournalItem) → IsJournal (state S.Store conn.old).now genesis items
         → HasCleanDisk (state S.Store conn.new) → IfOk result (λ began. (began.format ≡ pos 1) × (began.genesis.items ≡ genesis)) }
+    ensures faults { IfErr result IsOfBeginning }
     ensures same { (genesis : List ℕ) (items : List JournalItem) → IsJournal (state S.Store conn.old).now genesis items
         → HasCleanDisk (state S.Store conn.new) → OnOk result (IsUnchanged (state S.Store conn.old) (state S.Store conn.new)) }
     ensures crash { Survives (state S.Store conn.old) (state S.Store conn.new) (LeavesNothing (state S.Store conn.old)) }
@@ -72,7 +74,8 @@ pub fn beginning_of<S: Alter>(conn: &mut Connection<S>) -> Result<Beginning, Jou
 
 // The beginning that the only row shows.
 fn only_beginning(rows: &[Row]) -> Result<Beginning, JournalFault>
-    ensures { (genesis : List ℕ) → rows.now ≡ shown_beginning genesis ∷ [] → IfOk result (λ began. (began.format ≡ pos 1) × (began.genesis.items ≡ genesis)) }
+    ensures faults { IfErr result IsOfBeginning }
+    ensures began { (genesis : List ℕ) → rows.now ≡ shown_beginning genesis ∷ [] → IfOk result (λ began. (began.format ≡ pos 1) × (began.genesis.items ≡ genesis)) }
 {
     match rows {
         [row] => Ok(beginning_in(row)?),

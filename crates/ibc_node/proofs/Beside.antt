@@ -1,5 +1,5 @@
 -- A world stays beside its journal.
-use Rattle.std.proofs.Common.{◌≡◌, ℕ, ◌+◌, ◌==◌, true, false, List, [], ◌∷◌, ◌++◌, length, take, map, slice_get, Some, None, refl, sym, ap, ◌∙◌, subst, append-nil, length-append, eqb-true, arith}
+use Rattle.std.proofs.Common.{◌≡◌, ℕ, ◌+◌, ◌<◌, ◌==◌, true, false, List, [], ◌∷◌, ◌++◌, length, take, map, slice_get, Some, None, refl, sym, ap, ◌∙◌, subst, append-nil, length-append, eqb-true, arith}
 use Rattle.std.specs.Prelude.{IsTrue}
 use Rattle.std.proofs.lemmas.List.{take_more, take_all, length-map}
 use Rattle.std.proofs.lemmas.Option.{slice_get_within, get_or_from_slice_get}
@@ -82,6 +82,14 @@ first_behind genesis world items waiting end first beside is =
     let long = length-append items (items_of waiting) in
     let many = length-map waiting item in
     omega (arith, is, long, many, beside.read.1)
+
+-- no more entries wait than there are
+pub no_more_wait : (genesis : List ℕ) (world : WorldState) (items : List JournalItem) (waiting : List JournalEntry) (end : Cursor) → IsBeside genesis world (items ++ items_of waiting) end
+    → end.place < length waiting → ⊥
+no_more_wait genesis world items waiting end beside more =
+    let long = length-append items (items_of waiting) in
+    let many = length-map waiting item in
+    omega (arith, more, long, many, beside.read.1)
 
 none_long : {A : Type 0} (xs : List A) → length xs ≡ 0 → xs ≡ []
 none_long [] none = refl

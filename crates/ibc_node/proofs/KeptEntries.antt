@@ -1,9 +1,10 @@
 -- What a world has kept of an event is what its journal keeps.
-use Rattle.std.proofs.Common.{◌≡◌, ℕ, ◌+◌, ◌<◌, true, cond, List, [], ◌∷◌, ◌++◌, length, map, filter, refl, sym, ap, ◌∙◌, subst, Some, Result, Ok, Err, IfOk, ◌⊎◌, inl, inr, slice_get, arith, eq-eqb}
+use Rattle.std.proofs.Common.{◌≡◌, ℕ, ◌+◌, ◌<◌, ◌^◌, ◌&&◌, nat_lt, true, cond, List, [], ◌∷◌, ◌++◌, length, map, filter, refl, sym, ap, ◌∙◌, subst, Some, Result, Ok, Err, IfOk, ◌⊎◌, inl, inr, slice_get, arith, eq-eqb, lt-ltb}
+use Rattle.std.proofs.lemmas.Bool.{and_from}
 use Rattle.std.specs.Prelude.{IsTrue}
 use Rattle.ibc_ids.specs.declared.refusal.Refusal.{Refusal}
 use Rattle.ibc_ids.specs.declared.refusal.Refusal.TheVariants.{BadMessage, NoMemory}
-use Rattle.ibc_wire.specs.Fields.{have_form}
+use Rattle.ibc_wire.specs.Fields.{be64, have_form}
 use Rattle.std.proofs.lemmas.List.Elements.{filter-append}
 use Rattle.ibc_machine.specs.declared.event.Event.{Event}
 use Rattle.ibc_machine.specs.declared.reply.Reply.{Reply}
@@ -26,6 +27,10 @@ use Rattle.ibc_journal.specs.Entries.{item}
 use Rattle.ibc_journal.specs.Digests.{digest_after}
 use Rattle.ibc_journal.specs.Tables.{JournalItem}
 use Rattle.ibc_node.specs.Kept.{bytes_in, KeepsItem, IsLastEntry, StoresLast, KeepsLast, WhyNotKept}
+
+-- a time of 64 bits has its form
+pub time_form : (time : ℕ) → time < 2 ^ 64 → IsTrue (have_form (be64 time ∷ []))
+time_form time small = and_from (nat_lt time (2 ^ 64) && true) true (and_from (nat_lt time (2 ^ 64)) true (lt-ltb time (2 ^ 64) small) refl) refl
 
 -- the entry that a world kept last is the last of its chain
 last_of_chain : (old new : WorldState) (e : Entry) (ledger : Ledger) → IsWorld new → kept_entries new ≡ kept_entries old ++ e ∷ []

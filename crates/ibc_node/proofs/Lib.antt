@@ -6,3 +6,4 @@ pub mod Staying
 pub mod Told
 pub mod Marked
 pub mod GivenTexts
+pub mod Reasons

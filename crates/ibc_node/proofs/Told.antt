@@ -20,7 +20,7 @@ use Rattle.ibc_node.specs.declared.keeping.Asked.TheVariants as asked
 use Rattle.ibc_node.specs.declared.node.KeptAnswer.{KeptAnswer}
 use Rattle.ibc_node.specs.declared.node.Node.{Node}
 use Rattle.ibc_node.specs.Kept.{bytes_in, IsKeptAs, AreKeptAs, KeepsItem, IsAskedInVain, IsAsked}
-use Rattle.ibc_node.specs.Nodes.{IsBeside, HasGrown, HasAnswerAt, IsToldIn, AreToldIn, IsToldOf, StaysBeside, TellsOn, node_journal, node_world, with_waiting, HasJournal, HasKept}
+use Rattle.ibc_node.specs.Nodes.{IsBeside, HasGrown, HasAnswerAt, IsToldIn, AreToldIn, IsToldOf, StaysBeside, TellsOn, node_journal, node_world, with_waiting, HasKept}
 use Rattle.ibc_node.proofs.Unlawful.{as_many}
 use Rattle.ibc_node.proofs.Staying.{keeps_on}
 

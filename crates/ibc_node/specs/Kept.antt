@@ -41,9 +41,13 @@ pub record KeepsItem (old : WorldState) (before : List ℕ) (event : Event) (rep
   pub stored : IsKeptAs entry it
   pub due : it.digest ≡ digest_after before it
 
+-- some bytes spell the event
+abbrev pub HasSpelling : Event → Type 0
+HasSpelling event = IsTrue (have_form (event_fields event))
+
 -- why an event is not kept as bytes
 abbrev pub WhyNotSpelt : Event → Refusal → Type 0
-WhyNotSpelt event BadMessage = ¬ IsTrue (have_form (event_fields event))
+WhyNotSpelt event BadMessage = ¬ HasSpelling event
 WhyNotSpelt event NoMemory = ⊤
 WhyNotSpelt event _ = ⊥
 
@@ -55,6 +59,11 @@ WhyNotKept old event refusal = WhyNotSpelt event refusal
 -- the world is as it was, or it went on by the event, and memory ran out
 abbrev pub IsAskedInVain : WorldState → Event → WorldState → Type 0
 IsAskedInVain old event new = (new ≡ old) ⊎ ((given : Reply) × (is_answered given ≡ false) × AreSteps old (event ∷ []) (given ∷ []) new)
+
+-- nothing is kept, and the world is as it was
+abbrev pub IsNotAsked : WorldState → Asked → WorldState → Type 0
+IsNotAsked old (asked.Kept reply entry) new = ⊥
+IsNotAsked old (asked.NotKept refusal) new = new ≡ old
 
 -- what came of an event
 abbrev pub IsAsked : WorldState → List ℕ → Event → Asked → WorldState → Type 0

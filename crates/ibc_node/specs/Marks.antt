@@ -19,6 +19,10 @@ abbrev pub marks_from : ℕ → List JournalItem → List LogMark
 marks_from place [] = []
 marks_from place (it ∷ items) = marks_by it.log_place place ++ marks_from (place + 1) items
 
+-- the place of a log in the last of the marks
+abbrev pub IsLastPlace : List LogMark → ℕ → Type 0
+IsLastPlace marks place = (front : List LogMark) (last : LogMark) → marks ≡ front ++ last ∷ [] → place ≡ last.log_place
+
 abbrev pub node_marks : {S : Type 0} → Node S → List LogMark
 node_marks node = node.marks.items
 

@@ -1,13 +1,14 @@
 //! A journal is audited.
 
-ghost use Rattle.std.specs.Prelude.{◌≡◌, Ok, List, ℕ, option_copied, IfOk, OnOk};
+ghost use Rattle.std.specs.Prelude.{◌≡◌, Ok, Err, List, ℕ, option_copied, IfErr, IfOk, OnOk};
 ghost use Rattle.sqlite.specs.State.{HasCleanDisk, Survives};
 ghost use Rattle.sqlite.specs.Held.{state};
-ghost use Rattle.ibc_journal.specs.Tables.{journal_schema, JournalItem, IsJournal};
+ghost use Rattle.ibc_journal.specs.Tables.{no_schema, journal_schema, JournalItem, IsJournal};
 ghost use Rattle.ibc_journal.specs.Crashes.{LeavesNothing};
 ghost use Rattle.ibc_journal.specs.Restarts.{IsAtRest};
 ghost use Rattle.ibc_node.specs.Nodes.{IsGiven};
 ghost use Rattle.ibc_node.specs.Audits.{IsAuditOfJournal};
+ghost use Rattle.ibc_node.specs.Faults.{IsUnaudited};
 
 use crate::NodeFault;
 use crate::opening::{judge, replay_from};
@@ -36,6 +37,8 @@ pub fn audit_journal<S: Alter>(
 ) -> Result<JournalAudit, NodeFault>
     ensures audited { (text : List ℕ) (items : List JournalItem) → IsJournal (state S.Store conn.old).now text items
         → HasCleanDisk (state S.Store conn.new) → IfOk result (IsAuditOfJournal text items) }
+    ensures faults { (text : List ℕ) (items : List JournalItem) → IsJournal (state S.Store conn.old).now text items
+        → HasCleanDisk (state S.Store conn.new) → IfErr result (IsUnaudited (option_copied genesis.entry) text items) }
     // Where a genesis is given, it is the journal's own.
     ensures asked { (text : List ℕ) (items : List JournalItem) → IsJournal (state S.Store conn.old).now text items
         → HasCleanDisk (state S.Store conn.new) → OnOk result (IsGiven (option_copied genesis.entry) text) }
@@ -43,6 +46,7 @@ pub fn audit_journal<S: Alter>(
     ensures rest { (text : List ℕ) (items : List JournalItem) → IsAtRest (state S.Store conn.old) text items
         → HasCleanDisk (state S.Store conn.new) → OnOk result (IsAtRest (state S.Store conn.new) text items) }
     ensures which { OnOk result ((state S.Store conn.old).now.schema ≡ journal_schema) }
+    ensures empty { (state S.Store conn.old).now.schema ≡ no_schema → result ≡ Err NodeFault.NoJournal }
     ensures crash { Survives (state S.Store conn.old) (state S.Store conn.new) (LeavesNothing (state S.Store conn.old)) }
 {
     let looks = look(alloc, conn)?;
@@ -62,6 +66,8 @@ fn audit_entries<S: Alter>(
 ) -> Result<JournalAudit, NodeFault>
     ensures audited { (text : List ℕ) (items : List JournalItem) → IsJournal (state S.Store conn.old).now text items
         → HasCleanDisk (state S.Store conn.new) → IfOk result (IsAuditOfJournal text items) }
+    ensures faults { (text : List ℕ) (items : List JournalItem) → IsJournal (state S.Store conn.old).now text items
+        → HasCleanDisk (state S.Store conn.new) → IfErr result (IsUnaudited (option_copied genesis.entry) text items) }
     ensures asked { (text : List ℕ) (items : List JournalItem) → IsJournal (state S.Store conn.old).now text items
         → HasCleanDisk (state S.Store conn.new) → OnOk result (IsGiven (option_copied genesis.entry) text) }
     ensures rest { (text : List ℕ) (items : List JournalItem) → IsAtRest (state S.Store conn.old) text items

@@ -1,8 +1,15 @@
 //! Why a node ends before its input does.
 
+ghost use Rattle.std.specs.Prelude.{◌≡◌, ◌≢◌, ◌↔◌};
+ghost use Rattle.std.specs.IoError.{error_kind};
+ghost use Rattle.ibc_journal.specs.declared.fault.JournalFault.TheVariants.{Sqlite};
+ghost use Rattle.ibc_node.specs.declared.fault.NodeFault.TheVariants.{Journal, NoMemory};
+ghost use Rattle.ibc_node.specs.Faults.{fault_of_refusal};
+
 use ibc_ids::Refusal;
 use ibc_journal::JournalFault;
 use std::alloc::{AllocError, AllocFailed};
+use std::io::ErrorKind;
 use std::{fmt, io};
 
 /// Why a node ends before its input does. What was answered is in its journal.
@@ -40,7 +47,9 @@ pub enum NodeFault {
 
 impl NodeFault {
     /// The fault of a refusal where only want of memory stops the node.
-    pub fn of_refusal(refusal: Refusal, otherwise: NodeFault) -> NodeFault {
+    pub fn of_refusal(refusal: Refusal, otherwise: NodeFault) -> NodeFault
+        ensures { result ≡ fault_of_refusal refusal otherwise }
+    {
         match refusal {
             Refusal::NoMemory => NodeFault::NoMemory,
             _ => otherwise,
@@ -48,8 +57,11 @@ impl NodeFault {
     }
 
     /// The fault of a file of the genesis that can't be read.
-    pub fn of_genesis_file(error: &io::Error) -> NodeFault {
-        if error.kind() == io::ErrorKind::OutOfMemory {
+    pub fn of_genesis_file(error: &io::Error) -> NodeFault
+        ensures memory { result ≡ NodeFault.NoMemory ↔ (error_kind error.now ≡ ErrorKind.OutOfMemory) }
+        ensures other { result ≡ NodeFault.NoGenesisFile ↔ (error_kind error.now ≢ ErrorKind.OutOfMemory) }
+    {
+        if error.kind() == ErrorKind::OutOfMemory {
             NodeFault::NoMemory
         } else {
             NodeFault::NoGenesisFile
@@ -57,8 +69,12 @@ impl NodeFault {
     }
 
     /// The fault of a file of entries that can't be opened.
-    pub fn of_entry_file(error: &io::Error) -> NodeFault {
-        if error.kind() == io::ErrorKind::NotFound {
+    pub fn of_entry_file(error: &io::Error) -> NodeFault
+        ensures missing { error_kind error.now ≡ ErrorKind.NotFound → result ≡ NodeFault.NoFile }
+        ensures memory { error_kind error.now ≡ ErrorKind.OutOfMemory → result ≡ NodeFault.NoMemory }
+        ensures other { error_kind error.now ≢ ErrorKind.NotFound → error_kind error.now ≢ ErrorKind.OutOfMemory → result ≡ NodeFault.CannotRead }
+    {
+        if error.kind() == ErrorKind::NotFound {
             NodeFault::NoFile
         } else {
             NodeFault::of_input(error)
@@ -66,8 +82,11 @@ impl NodeFault {
     }
 
     /// The fault of an output that fails.
-    pub fn of_output(error: &io::Error) -> NodeFault {
-        if error.kind() == io::ErrorKind::BrokenPipe {
+    pub fn of_output(error: &io::Error) -> NodeFault
+        ensures unheard { result ≡ NodeFault.Unheard ↔ (error_kind error.now ≡ ErrorKind.BrokenPipe) }
+        ensures other { result ≡ NodeFault.CannotWrite ↔ (error_kind error.now ≢ ErrorKind.BrokenPipe) }
+    {
+        if error.kind() == ErrorKind::BrokenPipe {
             NodeFault::Unheard
         } else {
             NodeFault::CannotWrite
@@ -75,8 +94,11 @@ impl NodeFault {
     }
 
     /// The fault of an input that fails.
-    pub fn of_input(error: &io::Error) -> NodeFault {
-        if error.kind() == io::ErrorKind::OutOfMemory {
+    pub fn of_input(error: &io::Error) -> NodeFault
+        ensures memory { result ≡ NodeFault.NoMemory ↔ (error_kind error.now ≡ ErrorKind.OutOfMemory) }
+        ensures other { result ≡ NodeFault.CannotRead ↔ (error_kind error.now ≢ ErrorKind.OutOfMemory) }
+    {
+        if error.kind() == ErrorKind::OutOfMemory {
             NodeFault::NoMemory
         } else {
             NodeFault::CannotRead
@@ -85,24 +107,32 @@ impl NodeFault {
 }
 
 impl From<JournalFault> for NodeFault {
+    ghost from_gives = { λ fault e. e ≡ Journal fault };
+
     fn from(fault: JournalFault) -> NodeFault {
         NodeFault::Journal(fault)
     }
 }
 
 impl From<sqlite::Error> for NodeFault {
+    ghost from_gives = { λ error e. e ≡ Journal (Sqlite error) };
+
     fn from(error: sqlite::Error) -> NodeFault {
         NodeFault::Journal(JournalFault::Sqlite(error))
     }
 }
 
 impl From<AllocError> for NodeFault {
+    ghost from_gives = { λ _ e. e ≡ NoMemory };
+
     fn from(_error: AllocError) -> NodeFault {
         NodeFault::NoMemory
     }
 }
 
 impl<T: Drop> From<AllocFailed<T>> for NodeFault {
+    ghost from_gives = { λ _ e. e ≡ NoMemory };
+
     fn from(_error: AllocFailed<T>) -> NodeFault {
         NodeFault::NoMemory
     }

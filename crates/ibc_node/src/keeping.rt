@@ -1,6 +1,6 @@
 //! A world is asked for an event, and what its journal keeps of that is made.
 
-ghost use Rattle.std.specs.Prelude.{◌≡◌, ◌↔◌, ◌⊎◌, ◌<◌, length, map, option_map, IfErr, IfOk, IsErrOf, IsTrue};
+ghost use Rattle.std.specs.Prelude.{◌≡◌, ◌↔◌, ◌⊎◌, ◌<◌, ◌≤◌, length, map, option_map, Ok, IfErr, IfOk, IsErrOf, IsOkAnd, IsTrue, OnOk};
 ghost use Rattle.ibc_ids.specs.declared.refusal.Refusal.TheVariants.{BadMessage, NoMemory};
 ghost use Rattle.ibc_wire.specs.Fields.{have_form};
 ghost use Rattle.ibc_wire.specs.Messages.{message_fields};
@@ -9,7 +9,7 @@ ghost use Rattle.ibc_machine.specs.ledger.Ledgers.{chain_of};
 ghost use Rattle.ibc_refinement.specs.Steps.{is_answered};
 ghost use Rattle.ibc_journal.specs.Entries.{item};
 ghost use Rattle.ibc_journal.specs.Digests.{digest_after};
-ghost use Rattle.ibc_node.specs.Kept.{bytes_in, IsAsked, IsBy, IsLastEntry, StoresLast, KeepsLast};
+ghost use Rattle.ibc_node.specs.Kept.{bytes_in, HasSpelling, IsAsked, IsNotAsked, IsBy, IsLastEntry, StoresLast, KeepsLast};
 
 use crate::NodeFault;
 use ibc_entry_codec::{EntryBytes, store};
@@ -31,7 +31,8 @@ pub(crate) enum Asked {
     NotKept(Refusal),
 }
 
-/// Asks a world for an event, and makes the entry for its journal, behind one with this digest.
+/// Asks a world for an event, and makes the entry for its journal, behind one with this digest. A world that has no such chain isn't asked,
+/// and none for what no bytes spell.
 pub(crate) fn ask(
     alloc: Global,
     world: &mut World,
@@ -41,6 +42,9 @@ pub(crate) fn ask(
 ) -> Result<Asked, NodeFault>
     ensures asked { IfOk result (λ asked. IsAsked world.old before.now event asked world.new) }
     ensures by { IfOk result (IsBy log_place) }
+    ensures faults { IfErr result (λ fault. fault ≡ NodeFault.NoMemory) }
+    ensures unknown { length world.old.ledgers ≤ chain_of event → result ≡ Ok (Asked.NotKept Refusal.UnknownChain) }
+    ensures unspelt { ¬ HasSpelling event → IsOkAnd result (λ asked. IsNotAsked world.old asked world.new) }
 {
     let chain = chain_of(&event);
     if !has_chain(world, chain) {
@@ -67,6 +71,7 @@ fn ask_chain(
     requires { chain_of event < length world.old.ledgers }
     ensures asked { IfOk result (λ asked. IsAsked world.old before.now event asked world.new) }
     ensures by { IfOk result (IsBy log_place) }
+    ensures faults { IfErr result (λ fault. fault ≡ NodeFault.NoMemory) }
 {
     let chain = chain_of(&event);
     let reply = world.step(event);
@@ -101,18 +106,24 @@ fn has_chain(world: &World, chain: u8) -> bool
 }
 
 // Whether an event can be kept. Refused: `BadMessage` where no bytes spell it; `NoMemory`.
+#[tactic(auto, using(crate::proofs::KeptEntries::time_form))]
 fn spell(alloc: Global, event: &Event) -> Result<(), Refusal>
+    ensures ok { OnOk result (HasSpelling event.now) }
     ensures bad { IsErrOf result BadMessage → ¬ IsTrue (have_form (event_fields event.now)) }
     ensures errors { IfErr result (λ e. (e ≡ BadMessage) ⊎ (e ≡ NoMemory)) }
 {
     match event {
         Event::Message { message, .. } => spell_message(alloc, message),
-        Event::Block { .. } => Ok(()),
+        Event::Block { next_time, .. } => {
+            let _time = *next_time;
+            Ok(())
+        }
     }
 }
 
 // Whether bytes spell a message. Refused: `BadMessage` where none do; `NoMemory`.
 fn spell_message(alloc: Global, message: &Message) -> Result<(), Refusal>
+    ensures ok { OnOk result (IsTrue (have_form (message_fields message.now))) }
     ensures bad { IsErrOf result BadMessage → ¬ IsTrue (have_form (message_fields message.now)) }
     ensures errors { IfErr result (λ e. (e ≡ BadMessage) ⊎ (e ≡ NoMemory)) }
 {
@@ -138,6 +149,7 @@ fn keep_last(
 ) -> Result<JournalEntry, NodeFault>
     ensures kept { IfOk result (λ entry. KeepsLast world.now chain before.now (item entry)) }
     ensures by { IfOk result (λ entry. (item entry).log_place ≡ log_place) }
+    ensures faults { IfErr result (λ fault. fault ≡ NodeFault.NoMemory) }
 {
     let stored = store_last(alloc, world, chain)?;
     let entry = behind(alloc, before, log_place, &stored);
@@ -147,7 +159,8 @@ fn keep_last(
 
 // What is kept of the last entry of a chain.
 fn store_last(alloc: Global, world: &World, chain: u8) -> Result<EntryBytes, NodeFault>
-    ensures { IfOk result (StoresLast world.now chain) }
+    ensures stored { IfOk result (StoresLast world.now chain) }
+    ensures faults { IfErr result (λ fault. fault ≡ NodeFault.NoMemory) }
 {
     let Some(ledger) = world.ledger(chain) else {
         return Err(NodeFault::NoMemory);
@@ -181,6 +194,7 @@ fn behind(
     ensures bytes { IfOk result (λ entry. bytes_in (item entry) ≡ stored.now) }
     ensures due { IfOk result (λ entry. (item entry).digest ≡ digest_after before.now (item entry)) }
     ensures by { IfOk result (λ entry. (item entry).log_place ≡ log_place) }
+    ensures faults { IfErr result (λ fault. fault ≡ NodeFault.NoMemory) }
 {
     let event = Vec::from_slice(alloc, stored.event.as_slice())?;
     let answer = Vec::from_slice(alloc, stored.answer.as_slice())?;

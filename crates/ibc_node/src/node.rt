@@ -1,14 +1,16 @@
 //! A world beside its journal.
 
-ghost use Rattle.std.specs.Prelude.{◌≡◌, ◌+◌, ◌++◌, ◌∷◌, [], List, ℕ, None, length, option_map, slice_get, IfOk, IfSome, OnOk};
+ghost use Rattle.std.specs.Prelude.{◌≡◌, ◌≢◌, ◌+◌, ◌<◌, ◌≤◌, ◌^◌, ◌++◌, ◌∷◌, [], List, ℕ, None, length, option_map, slice_get, IfErr, IfNone, IfOk, IfSome, IsOkAnd, OnErr, OnOk};
 ghost use Rattle.sqlite.specs.State.{HasCleanDisk, Survives};
 ghost use Rattle.sqlite.specs.Held.{state};
 ghost use Rattle.ibc_machine.specs.declared.reply.Reply.TheVariants.{No};
 ghost use Rattle.ibc_machine.specs.ledger.Ledgers.{chain_of};
 ghost use Rattle.ibc_journal.specs.Tables.{JournalItem};
 ghost use Rattle.ibc_journal.specs.Entries.{item, items_of};
-ghost use Rattle.ibc_journal.specs.Crashes.{Lasts};
-ghost use Rattle.ibc_node.specs.Marks.{marks_by, marks_at, node_marks};
+ghost use Rattle.ibc_journal.specs.Crashes.{KeepsCommitted, Lasts};
+ghost use Rattle.ibc_node.specs.Kept.{HasSpelling};
+ghost use Rattle.ibc_node.specs.Marks.{marks_by, marks_at, IsLastPlace, node_marks};
+ghost use Rattle.ibc_node.specs.Faults.{IsOfFile, IsOfRoom};
 ghost use Rattle.ibc_node.specs.Nodes.{node_connection, node_journal, node_world, node_end, node_genesis, node_waiting, with_waiting, HasJournal, HasKept, IsToldIn, IsToldOf, TakesEvent, LeavesAll, StaysBeside, TellsOn};
 
 use crate::NodeFault;
@@ -66,7 +68,8 @@ fn not_kept(refusal: Refusal) -> KeptAnswer
 
 // An entry's own digest, or none where it isn't 32 bytes.
 fn digest_of(entry: &JournalEntry) -> Option<[u8; 32]>
-    ensures { IfSome result (λ digest. digest ≡ (item entry.now).digest) }
+    ensures digest { IfSome result (λ digest. digest ≡ (item entry.now).digest) }
+    ensures none { IfNone result (length (item entry.now).digest ≢ 32) }
 {
     match <[u8; 32]>::try_from(entry.digest.as_slice()) {
         Ok(digest) => Some(digest),
@@ -76,7 +79,8 @@ fn digest_of(entry: &JournalEntry) -> Option<[u8; 32]>
 
 // How far a journal goes with one entry more, which has the digest that is due.
 fn end_behind(end: &Cursor, entry: &JournalEntry) -> Option<Cursor>
-    ensures { IfSome result (λ after. after ≡ record { place = end.now.place + 1; last = (item entry.now).digest }) }
+    ensures after { IfSome result (λ after. after ≡ record { place = end.now.place + 1; last = (item entry.now).digest }) }
+    ensures none { length (item entry.now).digest ≡ 32 → IfNone result (2 ^ 32 ≤ end.now.place + 1) }
 {
     let Some(place) = end.place.checked_add(1) else {
         return None;
@@ -89,7 +93,8 @@ fn end_behind(end: &Cursor, entry: &JournalEntry) -> Option<Cursor>
 
 // The place of the first of the entries that wait, of which the last is before this one.
 fn first_of(end: u32, waiting: &[JournalEntry]) -> Option<u32>
-    ensures { IfSome result (λ first. first + length waiting.now ≡ end) }
+    ensures place { IfSome result (λ first. first + length waiting.now ≡ end) }
+    ensures none { IfNone result (end < length waiting.now) }
 {
     let count = waiting.len();
     if count > end as usize {
@@ -114,6 +119,17 @@ fn places_by(alloc: Global, marks: &[LogMark], log_place: u32) -> Result<Vec<u32
     Ok(places)
 }
 
+// The place of a log in the last of some marks, or 0 where there is none.
+fn last_place(marks: &[LogMark]) -> u32
+    ensures last { IsLastPlace marks.now result }
+    ensures none { marks.now ≡ [] → result ≡ 0 }
+{
+    match marks {
+        [.., last] => last.log_place,
+        [] => 0,
+    }
+}
+
 impl<S: Alter> Node<S> {
     /// How many entries there are, with those that wait.
     pub fn entries(&self) -> u32
@@ -123,11 +139,11 @@ impl<S: Alter> Node<S> {
     }
 
     /// The last place of a log by which an event came of which an entry is kept, or 0.
-    pub fn log_place(&self) -> u32 {
-        match self.marks.as_slice() {
-            [.., last] => last.log_place,
-            [] => 0,
-        }
+    pub fn log_place(&self) -> u32
+        ensures last { IsLastPlace (node_marks self.now) result }
+        ensures none { node_marks self.now ≡ [] → result ≡ 0 }
+    {
+        last_place(self.marks.as_slice())
     }
 
     /// How many entries wait to be put in.
@@ -158,10 +174,14 @@ impl<S: Alter> Node<S> {
             → IfOk result (λ answer. TakesEvent log_place text items self.old event answer self.new) }
         ensures told { (text : List ℕ) (items : List JournalItem) → HasKept text items self.old
             → IfOk result (λ answer. IsToldIn (node_world self.new) (chain_of event, answer)) }
+        // A world that has no such chain isn't asked, and none for what no bytes spell.
+        ensures unknown { length (node_world self.old).ledgers ≤ chain_of event → IsOkAnd result (λ answer. answer.reply ≡ No Refusal.UnknownChain) }
+        ensures unspelt { ¬ HasSpelling event → IsOkAnd result (λ answer. (answer.place ≡ None) × (node_world self.new ≡ node_world self.old)) }
         ensures marked { IfOk result (λ answer. node_marks self.new ≡ node_marks self.old ++ marks_at log_place answer.place) }
         ensures journal { node_connection self.new ≡ node_connection self.old }
         ensures genesis { node_genesis self.new ≡ node_genesis self.old }
         ensures keeps { OnOk result (StaysBeside (state S.Store) self.old self.new) }
+        ensures faults { IfErr result (IsOfRoom (node_end self.old).place) }
     {
         let asked = ask(
             self.alloc,
@@ -194,6 +214,7 @@ impl<S: Alter> Node<S> {
         ensures world { self.new.world ≡ self.old.world }
         ensures journal { self.new.conn ≡ self.old.conn }
         ensures genesis { self.new.genesis.items ≡ self.old.genesis.items }
+        ensures faults { length (item entry).digest ≡ 32 → IfErr result (IsOfRoom self.old.end.place) }
     {
         let here = self.end.place;
         let Some(after) = end_behind(&self.end, &entry) else {
@@ -215,6 +236,11 @@ impl<S: Alter> Node<S> {
         ensures lasts { (text : List ℕ) (items : List JournalItem) → HasJournal (state S.Store) text items self.old
             → HasKept text (with_waiting items self.old) self.old
             → HasCleanDisk (node_journal (state S.Store) self.new) → OnOk result (Lasts (node_journal (state S.Store) self.new) text (with_waiting items self.old)) }
+        // After an error nothing of them is committed, as far as the connection is still open.
+        ensures refused { (text : List ℕ) (items : List JournalItem) → HasJournal (state S.Store) text items self.old
+            → HasKept text (with_waiting items self.old) self.old
+            → HasCleanDisk (node_journal (state S.Store) self.new) → OnErr result (KeepsCommitted (node_journal (state S.Store) self.old) (node_journal (state S.Store) self.new)) }
+        ensures faults { (text : List ℕ) (items : List JournalItem) → HasKept text (with_waiting items self.old) self.old → IfErr result IsOfFile }
         ensures none { OnOk result (node_waiting self.new ≡ []) }
         ensures world { node_world self.new ≡ node_world self.old }
         ensures end { node_end self.new ≡ node_end self.old }
@@ -273,6 +299,7 @@ impl<S: Alter> Node<S> {
         ensures marks { node_marks self.new ≡ node_marks self.old }
         ensures genesis { node_genesis self.new ≡ node_genesis self.old }
         ensures keeps { OnOk result (StaysBeside (state S.Store) self.old self.new) }
+        ensures faults { (text : List ℕ) (items : List JournalItem) → HasKept text (with_waiting items self.old) self.old → IfErr result IsOfFile }
     {
         self.settle()?;
         Ok(entry_at(&mut self.conn, place)?)

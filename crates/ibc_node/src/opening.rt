@@ -1,6 +1,6 @@
 //! A node goes on where its journal ends.
 
-ghost use Rattle.std.specs.Prelude.{◌≡◌, ◌⊎◌, ◌≤◌, [], List, ℕ, Ok, Some, option_copied, IfErr, IfOk, IsTrue, OnOk};
+ghost use Rattle.std.specs.Prelude.{◌≡◌, ◌⊎◌, ◌≤◌, [], List, ℕ, pos, Ok, Some, option_copied, IfErr, IfOk, IsTrue, OnErr, OnOk};
 ghost use Rattle.sqlite.specs.State.{HasCleanDisk, Survives};
 ghost use Rattle.sqlite.specs.Start.{FindsIn};
 ghost use Rattle.sqlite.specs.View.{doubt};
@@ -10,17 +10,16 @@ ghost use Rattle.sqlite.specs.Held.{state};
 ghost use Rattle.ibc_machine.specs.chain.Genesis.{GenesisState, genesis_state, is_allowed};
 ghost use Rattle.ibc_replay.specs.Replays.{IsBeginning};
 ghost use Rattle.ibc_journal.specs.Tables.{no_schema, journal_schema, JournalItem, IsJournal};
-ghost use Rattle.ibc_journal.specs.Crashes.{LeavesBegun, LeavesNothing};
+ghost use Rattle.ibc_journal.specs.Crashes.{KeepsCommitted, LeavesBegun, LeavesNothing};
 ghost use Rattle.ibc_journal.specs.Restarts.{IsAtRest, HoldsJournal};
 ghost use Rattle.ibc_node.specs.Marks.{marks_from, IsMarked};
 ghost use Rattle.ibc_node.specs.Nodes.{HoldsWholeJournal, IsBegun, IsGenesisText, is_given, IsGiven, IsRestarted, node_journal, node_genesis, node_waiting, HasJournal, GoesOnWith, IsFirstStart, BeginsAsGiven};
 ghost use Rattle.ibc_node.specs.Audits.{IfDiffers, OnDiffers, IsUnlawful};
-ghost use Rattle.ibc_node.specs.Faults.{IsOfOther};
+ghost use Rattle.ibc_node.specs.Faults.{IfFault, IsOfGenesis, IsUnreplayed, IsOfOther};
 
 use crate::reading::{LogMark, Past, read_all};
 use crate::unread::Unread;
 use crate::{Node, NodeFault};
-use ibc_ids::Refusal;
 use ibc_journal::{Beginning, Cursor, FORMAT, Looks, begin, beginning_of, look};
 use ibc_machine::Genesis;
 use ibc_script::{Fault, Script, read_script};
@@ -167,6 +166,9 @@ pub(crate) fn begin_with<S: Alter>(
     ensures new { (state S.Store conn.old).now.schema ≡ no_schema
         → HasCleanDisk (state S.Store conn.new) → IfOk result (λ start. IsAtRest (state S.Store conn.new) start.genesis.items []) }
     ensures unmarked { IfOk result (λ start. start.marks.items ≡ []) }
+    // After an error nothing is committed, as far as the connection is still open.
+    ensures refused { (state S.Store conn.old).now.schema ≡ no_schema
+        → HasCleanDisk (state S.Store conn.new) → OnErr result (KeepsCommitted (state S.Store conn.old) (state S.Store conn.new)) }
     ensures crash { Survives (state S.Store conn.old) (state S.Store conn.new) (LeavesBegun (state S.Store conn.old) genesis.now) }
 {
     let text = Vec::from_slice(alloc, genesis)?;
@@ -183,7 +185,8 @@ pub(crate) fn begin_with<S: Alter>(
 
 // The world of a text's genesis in the beginning.
 fn world_of(alloc: Global, text: &[u8]) -> Result<World, NodeFault>
-    ensures { IfOk result (λ world. (genesis : GenesisState) × IsGenesisText text.now genesis × IsBeginning genesis world × IsTrue (is_allowed genesis)) }
+    ensures world { IfOk result (λ world. (genesis : GenesisState) × IsGenesisText text.now genesis × IsBeginning genesis world × IsTrue (is_allowed genesis)) }
+    ensures faults { IfErr result IsOfGenesis }
 {
     let genesis = genesis_of(alloc, text)?;
     let world = new_world(alloc, &genesis);
@@ -195,6 +198,7 @@ fn world_of(alloc: Global, text: &[u8]) -> Result<World, NodeFault>
 fn new_world(alloc: Global, genesis: &Genesis) -> Result<World, NodeFault>
     ensures begins { IfOk result (IsBeginning (genesis_state genesis.now)) }
     ensures allowed { OnOk result (IsTrue (is_allowed (genesis_state genesis.now))) }
+    ensures faults { IfErr result IsOfGenesis }
 {
     match World::new(alloc, genesis) {
         Ok(world) => Ok(world),
@@ -204,7 +208,8 @@ fn new_world(alloc: Global, genesis: &Genesis) -> Result<World, NodeFault>
 
 /// The genesis of a script with no steps.
 pub(crate) fn genesis_of(alloc: Global, text: &[u8]) -> Result<Genesis, NodeFault>
-    ensures { IfOk result (λ genesis. IsGenesisText text.now (genesis_state genesis)) }
+    ensures genesis { IfOk result (λ genesis. IsGenesisText text.now (genesis_state genesis)) }
+    ensures faults { IfErr result IsOfGenesis }
 {
     match read_script(alloc, text) {
         Ok(script) => genesis_alone(script),
@@ -217,6 +222,7 @@ pub(crate) fn genesis_of(alloc: Global, text: &[u8]) -> Result<Genesis, NodeFaul
 fn genesis_alone(script: Script) -> Result<Genesis, NodeFault>
     ensures genesis { IfOk result (λ genesis. genesis_state genesis ≡ genesis_state script.genesis) }
     ensures no_steps { OnOk result (script.steps.items ≡ []) }
+    ensures faults { IfErr result (λ fault. fault ≡ NodeFault.BadGenesis) }
 {
     let Script {
         genesis,
@@ -268,7 +274,8 @@ pub(crate) fn go_on<S: Alter>(
 /// Whether a journal is of this format, and began with the genesis that is given, where one is.
 pub(crate) fn judge(began: &Beginning, genesis: Option<&[u8]>) -> Result<(), NodeFault>
     ensures asked { OnOk result (IsGiven (option_copied genesis.entry) began.now.genesis.items) }
-    ensures faults { IfErr result (IsOfOther (option_copied genesis.entry) began.now.genesis.items) }
+    ensures numbered { OnOk result (began.now.format ≡ pos 1) }
+    ensures faults { IfErr result (IsOfOther (option_copied genesis.entry) began.now.genesis.items began.now.format) }
 {
     if began.format != i64::from(FORMAT) {
         return Err(NodeFault::OtherFormat(began.format));
@@ -301,6 +308,8 @@ pub(crate) fn replay_from<S: Alter>(
         → HasCleanDisk (state S.Store conn.new) → IfOk result (λ past. past.marks.items ≡ marks_from 0 items) }
     ensures differs { (items : List JournalItem) → IsJournal (state S.Store conn.old).now genesis.now items
         → HasCleanDisk (state S.Store conn.new) → IfErr result (IfDiffers (IsUnlawful genesis.now items)) }
+    ensures faults { (items : List JournalItem) → IsJournal (state S.Store conn.old).now genesis.now items
+        → HasCleanDisk (state S.Store conn.new) → IfErr result (IfFault (IsUnreplayed genesis.now items)) }
     ensures rest { (items : List JournalItem) → IsAtRest (state S.Store conn.old) genesis.now items
         → HasCleanDisk (state S.Store conn.new) → OnOk result (IsAtRest (state S.Store conn.new) genesis.now items) }
     ensures left { (items : List JournalItem) → IsAtRest (state S.Store conn.old) genesis.now items

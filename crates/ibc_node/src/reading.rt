@@ -1,6 +1,6 @@
 //! The entries of a journal are read back, and each is put to the world again.
 
-ghost use Rattle.std.specs.Prelude.{◌≡◌, ◌++◌, ◌∷◌, [], false, take, length, List, ℕ, IfErr, IfOk, OnOk};
+ghost use Rattle.std.specs.Prelude.{◌≡◌, ◌+◌, ◌≤◌, ◌++◌, ◌∷◌, [], false, take, length, List, ℕ, IfErr, IfOk, IsTrue, OnOk};
 ghost use Rattle.sqlite.specs.State.{HasCleanDisk, IsUnchanged, Survives};
 ghost use Rattle.sqlite.specs.Held.{state};
 ghost use Rattle.ibc_refinement.specs.World.{WorldState};
@@ -13,12 +13,13 @@ ghost use Rattle.ibc_journal.specs.Crashes.{LeavesNothing};
 ghost use Rattle.ibc_journal.specs.Restarts.{IsAtRest};
 ghost use Rattle.ibc_node.specs.Kept.{bytes_in, IsKeptAs, HasReplayed, ReplaysOne};
 ghost use Rattle.ibc_node.specs.Marks.{marks_by, marks_from};
+ghost use Rattle.ibc_node.specs.Faults.{fault_at, IsOfBytes, IsOfEntry, IfFault, IsUnreadAt, IsUnread};
 ghost use Rattle.ibc_node.specs.Audits.{IfDiffers, OnDiffers, IsUnreadBy, StopsAtItem, StopsAsKept};
 
 use crate::NodeFault;
 use crate::unread::Unread;
 use ibc_entry_codec::{EntryBytes, restore};
-use ibc_ids::{Bytes, Refusal};
+use ibc_ids::Bytes;
 use ibc_journal::{Cursor, JournalEntry, JournalFault, end_at, next};
 use ibc_machine::Entry;
 use ibc_replay::{Difference, replay_on};
@@ -76,6 +77,8 @@ pub(crate) fn read_all<S: Alter>(
         → HasCleanDisk (state S.Store conn.new) → IfOk result (λ past. past.marks.items ≡ marks_from 0 items) }
     ensures differs { (items : List JournalItem) → IsJournal (state S.Store conn.old).now genesis.now items
         → HasCleanDisk (state S.Store conn.new) → IfErr result (IfDiffers (StopsAsKept world items)) }
+    ensures faults { (items : List JournalItem) → IsJournal (state S.Store conn.old).now genesis.now items
+        → HasCleanDisk (state S.Store conn.new) → IfErr result (IfFault (IsUnread genesis.now items)) }
     ensures rest { (items : List JournalItem) → IsAtRest (state S.Store conn.old) genesis.now items
         → HasCleanDisk (state S.Store conn.new) → OnOk result (IsAtRest (state S.Store conn.new) genesis.now items) }
     ensures left { (items : List JournalItem) → IsAtRest (state S.Store conn.old) genesis.now items
@@ -105,11 +108,14 @@ fn read_next<S: Alter>(
     ensures marked { (genesis : List ℕ) (items : List JournalItem) → IsJournal (state S.Store conn.old).now genesis items → HasReadTo genesis items past.old.end
         → past.old.marks.items ≡ marks_from 0 (take past.old.end.place items) → HasCleanDisk (state S.Store conn.new)
         → OnOk result (past.new.marks.items ≡ marks_from 0 (take past.new.end.place items)) }
+    ensures more { IfOk result (λ more. IsTrue more → past.new.end.place ≡ past.old.end.place + 1) }
     ensures end { (genesis : List ℕ) (items : List JournalItem) → IsJournal (state S.Store conn.old).now genesis items → HasReadTo genesis items past.old.end
         → HasCleanDisk (state S.Store conn.new) → IfOk result (λ more. more ≡ false → past.new.end.place ≡ length items) }
     ensures differs { (genesis : List ℕ) (items : List JournalItem) (beginning : WorldState) → IsJournal (state S.Store conn.old).now genesis items → HasReadTo genesis items past.old.end
         → HasReplayed beginning (take past.old.end.place items) past.old.world → HasCleanDisk (state S.Store conn.new)
         → IfErr result (IfDiffers (StopsAsKept beginning items)) }
+    ensures faults { (genesis : List ℕ) (items : List JournalItem) → IsJournal (state S.Store conn.old).now genesis items → HasReadTo genesis items past.old.end
+        → HasCleanDisk (state S.Store conn.new) → IfErr result (IfFault (IsUnreadAt items past.old.end)) }
     ensures same { (genesis : List ℕ) (items : List JournalItem) → IsJournal (state S.Store conn.old).now genesis items
         → HasCleanDisk (state S.Store conn.new) → OnOk result (IsUnchanged (state S.Store conn.old) (state S.Store conn.new)) }
     ensures left { (genesis : List ℕ) (items : List JournalItem) → IsJournal (state S.Store conn.old).now genesis items
@@ -140,6 +146,7 @@ fn replay_entry(
 ) -> Result<(), Unread>
     ensures replayed { OnOk result (ReplaysOne world.old (item kept) world.new) }
     ensures differs { IfErr result (IfDiffers (StopsAtItem world.old place (item kept) world.new)) }
+    ensures faults { IfErr result (IfFault (IsOfEntry place (item kept))) }
 {
     let entry = entry_of(alloc, place, kept)?;
     replay_alone(alloc, world, place, entry)
@@ -149,6 +156,7 @@ fn replay_entry(
 fn replay_alone(alloc: Global, world: &mut World, place: u32, entry: Entry) -> Result<(), Unread>
     ensures replayed { OnOk result (GoesOnAsStored world.old (entry ∷ []) world.new) }
     ensures differs { IfErr result (IfDiffers (λ why. StopsAt world.old place entry why world.new)) }
+    ensures faults { IfErr result (IfFault (λ fault. fault ≡ NodeFault.NoMemory)) }
 {
     let mut entries = Vec::new(alloc);
     entries.push(entry)?;
@@ -175,7 +183,9 @@ fn unread_by(why: Difference) -> Unread
 }
 
 // Why the entry at a place can't be read: one of its numbers is out of range, or the journal says why.
-fn fault_at(place: u32, fault: JournalFault) -> NodeFault {
+fn fault_at(place: u32, fault: JournalFault) -> NodeFault
+    ensures { result ≡ fault_at place fault }
+{
     match fault {
         JournalFault::Sqlite(Error::IntegralValueOutOfRange(_)) => NodeFault::NoEntry(place),
         fault => NodeFault::Journal(fault),
@@ -184,7 +194,8 @@ fn fault_at(place: u32, fault: JournalFault) -> NodeFault {
 
 /// Marks an entry, where its event came by a log.
 pub(crate) fn mark(marks: &mut Vec<LogMark>, log_place: u32, place: u32) -> Result<(), NodeFault>
-    ensures { OnOk result (marks.new.items ≡ marks.old.items ++ marks_by log_place place) }
+    ensures marked { OnOk result (marks.new.items ≡ marks.old.items ++ marks_by log_place place) }
+    ensures faults { IfErr result (λ fault. fault ≡ NodeFault.NoMemory) }
 {
     if log_place == 0 {
         return Ok(());
@@ -195,7 +206,8 @@ pub(crate) fn mark(marks: &mut Vec<LogMark>, log_place: u32, place: u32) -> Resu
 
 /// The entry that is kept at a place.
 pub(crate) fn entry_of(alloc: Global, place: u32, kept: JournalEntry) -> Result<Entry, NodeFault>
-    ensures { IfOk result (λ entry. IsKeptAs entry (item kept)) }
+    ensures entry { IfOk result (λ entry. IsKeptAs entry (item kept)) }
+    ensures faults { IfErr result (IsOfEntry place (item kept)) }
 {
     let stored = bytes_of(place, kept)?;
     let entry = restored(alloc, place, &stored);
@@ -205,18 +217,19 @@ pub(crate) fn entry_of(alloc: Global, place: u32, kept: JournalEntry) -> Result<
 
 // The entry of which this is kept at a place.
 fn restored(alloc: Global, place: u32, stored: &EntryBytes) -> Result<Entry, NodeFault>
-    ensures { IfOk result (λ entry. StoresEntry entry stored.now) }
+    ensures entry { IfOk result (λ entry. StoresEntry entry stored.now) }
+    ensures faults { IfErr result (IsOfBytes place stored.now) }
 {
     match restore(alloc, stored) {
         Ok(entry) => Ok(entry),
-        Err(Refusal::NoMemory) => Err(NodeFault::NoMemory),
-        Err(_) => Err(NodeFault::NoEntry(place)),
+        Err(refusal) => Err(NodeFault::of_refusal(refusal, NodeFault::NoEntry(place))),
     }
 }
 
 // The byte that a number of an entry is.
 fn byte_of(place: u32, number: u32) -> Result<u8, NodeFault>
-    ensures { IfOk result (λ byte. byte ≡ number) }
+    ensures byte { IfOk result (λ byte. byte ≡ number) }
+    ensures faults { IfErr result (λ fault. (fault ≡ NodeFault.NoEntry place) × (256 ≤ number)) }
 {
     match u8::try_from(number) {
         Ok(byte) => Ok(byte),
@@ -226,7 +239,8 @@ fn byte_of(place: u32, number: u32) -> Result<u8, NodeFault>
 
 // What is kept of an entry.
 fn bytes_of(place: u32, kept: JournalEntry) -> Result<EntryBytes, NodeFault>
-    ensures { IfOk result (λ stored. stored ≡ bytes_in (item kept)) }
+    ensures stored { IfOk result (λ stored. stored ≡ bytes_in (item kept)) }
+    ensures faults { IfErr result (IsOfEntry place (item kept)) }
 {
     let chain = byte_of(place, kept.chain)?;
     let kind = byte_of(place, kept.kind)?;

@@ -3,6 +3,7 @@
 ghost use Rattle.std.specs.Prelude.{◌≡◌};
 ghost use Rattle.ibc_node.specs.declared.fault.NodeFault.TheVariants.{Journal, NoMemory};
 ghost use Rattle.ibc_node.specs.declared.unread.Unread.TheVariants.{Fault};
+ghost use Rattle.ibc_node.specs.Faults.{fault_of, unread_fault};
 
 use crate::NodeFault;
 use ibc_journal::JournalFault;
@@ -43,6 +44,8 @@ impl<T: Drop> From<AllocFailed<T>> for Unread {
 }
 
 impl From<Unread> for NodeFault {
+    ghost from_gives = { λ why fault. fault ≡ unread_fault why };
+
     fn from(why: Unread) -> NodeFault {
         match why {
             Unread::Fault(fault) => fault,
@@ -52,7 +55,9 @@ impl From<Unread> for NodeFault {
 }
 
 // The fault of who wants no more than the place.
-fn fault_of(why: Difference) -> NodeFault {
+fn fault_of(why: Difference) -> NodeFault
+    ensures { result ≡ fault_of why }
+{
     match why {
         Difference::NoGenesis => NodeFault::BadGenesis,
         Difference::NoMemory => NodeFault::NoMemory,

@@ -1,5 +1,7 @@
 -- What each event keeps, a step keeps.
-use Rattle.std.proofs.Common.{◌≡◌, ℕ, zero, suc, List, [], ◌∷◌, ◌++◌, Option, Some, None, Result, Ok, Err, OnOk, inl, inr, sym, subst}
+use Rattle.std.proofs.Common.{◌≡◌, ℕ, zero, suc, List, [], ◌∷◌, ◌++◌, Option, Some, None, Result, Ok, Err, OnOk, inl, inr, refl, sym, subst}
+use Rattle.sqlite.specs.State.{State}
+use Rattle.sqlite.specs.Held.{Held}
 use Rattle.ibc_ids.specs.Texts.{Text}
 use Rattle.ibc_machine.specs.declared.event.Event.{Event}
 use Rattle.ibc_machine.specs.declared.event.Event.TheVariants as event
@@ -11,10 +13,13 @@ use Rattle.ibc_script.specs.declared.event_kind.EventKind.TheVariants as kind
 use Rattle.ibc_script.specs.declared.script.Step.{Step}
 use Rattle.ibc_script.specs.declared.script.Step.TheVariants as step
 use Rattle.ibc_script_cli.specs.ScriptChains.{ScriptChains}
-use Rattle.ibc_script_cli.specs.Runs.{Act, SendsIfMade, Submits, EndsBy, TakesTurn, TakesStep, Does, Reaches, Runs}
+use Rattle.ibc_script_cli.specs.Runs.{Act, SendsIfMade, Submits, EndsBy, TakesTurn, TakesStep, Does, Reaches, Runs, asking_acts}
 use Rattle.ibc_script_cli.specs.Runs.Act.{Take, Open, SendPlans, Send, TellBalances, TellNotes, Write}
 use Rattle.ibc_script_cli.specs.declared.opening.Handshake.{Handshake}
 use Rattle.ibc_script_cli.specs.declared.opening.HandshakeSide.{HandshakeSide}
+use Rattle.ibc_node.specs.declared.node.Node.{Node}
+use Rattle.ibc_node_lines.specs.declared.desk.Desk.{Desk}
+use Rattle.ibc_node_lines.specs.Desks.{desk_chains, RunsStep}
 
 module _ {C : Type 0} (chains : ScriptChains C) (names : List Text) (Kept : C → C → Type 0) (same : (c : C) → Kept c c) (further : (a b c : C) → Kept a b → Kept b c → Kept a c)
     (each : (a b : C) (asked : Event) (given : Reply) → chains.asked a asked given b → Kept a b) where
@@ -65,3 +70,21 @@ module _ {C : Type 0} (chains : ScriptChains C) (names : List Text) (Kept : C �
   pub runs_keep : {T E : Type 0} (acts : List Act) (result : Result T E) (a : C) (before : Option Text) (b : C) (after : Option Text) → Runs chains names acts result a before b after → OnOk result (Kept a b)
   runs_keep acts (Ok x) a before b after r = reaches_keep r.count acts a r.text [] b r.reaches
   runs_keep acts (Err fault) a before b after r = tt
+
+-- what was run of a step on a desk ran on its node
+pub step_run : {S T E : Type 0} (shows : Held S → State) (names : List Text) (log_place : ℕ) (asked : Step) (result : Result T E) (a b : Desk S) (before after : Option Text) (old : Node S)
+    → Runs (desk_chains shows) names (asking_acts asked) result a before b after → a.node ≡ old → a.told.items ≡ [] → a.log_place ≡ log_place
+    → OnOk result (RunsStep shows names log_place asked old b.told.items b.node)
+step_run shows names log_place asked (Ok x) a b before after old ran begins none by = record {
+  before = a;
+  after = b;
+  begins = begins;
+  none = none;
+  by = by;
+  ends = refl;
+  all = refl;
+  count = ran.count;
+  text = ran.text;
+  reaches = ran.reaches;
+}
+step_run shows names log_place asked (Err fault) a b before after old ran begins none by = tt

@@ -12,7 +12,10 @@ use Rattle.ibc_node.specs.declared.auditing.JournalAudit.TheVariants as found
 use Rattle.ibc_node.specs.declared.node.Node.{Node}
 use Rattle.ibc_node.specs.Audits.{IsAuditOfJournal, IsLawfulJournal, FindsLawful}
 use Rattle.ibc_node.specs.Nodes.{node_genesis, node_journal, node_waiting, with_waiting, IsGiven, GoesOnWith, HasJournal, HasKept, HasAll}
-use Rattle.ibc_node_lines.specs.Told.{resumed_text, HasTold}
+use Rattle.ibc_node_lines.specs.Audited.{TellsLawful}
+use Rattle.ibc_node_lines.specs.OtherLines.{lawful_text}
+use Rattle.ibc_node_lines.specs.Sessions.{HasTold}
+use Rattle.ibc_node_lines.specs.Told.{resumed_text}
 use Rattle.ibc_node_lines.specs.Runs.{HasServed, HasAudited}
 
 pub has_served : {S E : Type 0} (shows : Held S → State) (genesis : Option (List ℕ)) (text : List ℕ) (items : List JournalItem) (start : Node S) (r : Result (Node S) E) (before after : Option Text)
@@ -36,6 +39,7 @@ has_served shows genesis text items start (Ok node) before after opened given ow
       texts = told.texts;
       written = subst (λ n. Appends before after (resumed_text n told.log_place ++ told.text)) began.0.beside.read.1 told.written;
       answers = told.tells.told text items began.1 kept clean tt;
+      fair = told.fair;
       grown = told.tells.stays.grown;
       genesis_is = told.tells.stays.genesis ∙ own calm;
       all = all began.1 kept clean;
@@ -46,7 +50,18 @@ lawful_run : (text : List ℕ) (items : List JournalItem) (audit : JournalAudit)
 lawful_run text items (found.Lawful entries) is lawful = subst (IsLawfulJournal text items) is.count is
 lawful_run text items (found.Differs why) is lawful = absurd lawful
 
-pub has_audited : {T E : Type 0} (genesis : Option (List ℕ)) (text : List ℕ) (items : List JournalItem) (s : State) (audit : JournalAudit) (r : Result T E) → IsGiven genesis text
-    → IsAuditOfJournal text items audit → IsAtRest s text items → OnOk r (FindsLawful audit) → OnOk r (HasAudited genesis text items s)
-has_audited genesis text items s audit (Ok x) given is rest lawful = record { given = given; lawful = lawful_run text items audit is lawful; rest = rest }
-has_audited genesis text items s audit (Err e) given is rest lawful = tt
+-- what is told is how many entries there are
+lawful_told : (text : List ℕ) (items : List JournalItem) (before after : Option Text) (audit : JournalAudit) → IsAuditOfJournal text items audit → TellsLawful audit before after
+    → Appends before after (lawful_text (length items))
+lawful_told text items before after (found.Lawful entries) is told = subst (λ n. Appends before after (lawful_text n)) is.count told
+lawful_told text items before after (found.Differs why) is told = absurd told
+
+pub has_audited : {T E : Type 0} (genesis : Option (List ℕ)) (text : List ℕ) (items : List JournalItem) (s : State) (before after : Option Text) (audit : JournalAudit) (r : Result T E) → IsGiven genesis text
+    → IsAuditOfJournal text items audit → IsAtRest s text items → OnOk r (FindsLawful audit) → OnOk r (TellsLawful audit before after) → OnOk r (HasAudited genesis text items s before after)
+has_audited genesis text items s before after audit (Ok x) given is rest lawful told = record {
+  given = given;
+  lawful = lawful_run text items audit is lawful;
+  rest = rest;
+  written = lawful_told text items before after audit is told;
+}
+has_audited genesis text items s before after audit (Err e) given is rest lawful told = tt

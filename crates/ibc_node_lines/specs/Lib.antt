@@ -1,4 +1,8 @@
 pub mod Audited
 pub mod Desks
+pub mod OtherLines
 pub mod Told
 pub mod Runs
+pub mod QuestionAnswers
+pub mod Requests
+pub mod Sessions

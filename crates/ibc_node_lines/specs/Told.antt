@@ -2,20 +2,16 @@
 use Rattle.std.specs.Prelude.{◌≡◌, ◌++◌, ◌==◌, ℕ, Bool, true, false, codes, List, [], ◌∷◌, length, Option, None, Some, string_bytes, if◌then◌else◌}
 use Rattle.std.specs.Fmt.{decimal}
 use Rattle.std.specs.List.{AllZip, concat, flat_map}
-use Rattle.std.specs.Io.KnownBytes.{Appends}
 use Rattle.hex.specs.Hex.{encode_lower}
-use Rattle.sqlite.specs.State.{State}
-use Rattle.sqlite.specs.Held.{Held}
 use Rattle.ibc_ids.specs.Texts.{Text}
 use Rattle.ibc_ids.specs.Refusals.{number_of}
 use Rattle.ibc_ids.specs.declared.refusal.Refusal.{Refusal}
+use Rattle.ibc_ids.specs.declared.refusal.Refusal.TheVariants as refusal
 use Rattle.ibc_machine.specs.declared.reply.Effect.{Effect}
 use Rattle.ibc_machine.specs.declared.reply.Effect.TheVariants as effect
 use Rattle.ibc_machine.specs.declared.reply.Reply.{Reply}
 use Rattle.ibc_machine.specs.declared.reply.Reply.TheVariants as reply
 use Rattle.ibc_node.specs.declared.node.KeptAnswer.{KeptAnswer}
-use Rattle.ibc_node.specs.declared.node.Node.{Node}
-use Rattle.ibc_node.specs.Nodes.{TellsOn, node_end}
 use Rattle.ibc_node_lines.specs.declared.lines.NodeLine.{NodeLine}
 use Rattle.ibc_node_lines.specs.declared.lines.NodeLine.TheVariants as line
 
@@ -46,17 +42,52 @@ effect_text (effect.Block height root) = block_text height (encode_lower root)
 abbrev pub ok_text : Text → Text
 ok_text given = codes "\"ok\":" ++ given
 
--- a refusal's number, and words that say why
+-- a number, and words
 abbrev pub refused_text : ℕ → Text → Text
 refused_text number why = codes "\"no\":" ++ (decimal number ++ (codes ",\"why\":\"" ++ (why ++ codes "\"")))
 
+-- the words that say why
+abbrev pub refusal_text : Refusal → Text
+refusal_text refusal.NoMemory = codes "no memory"
+refusal_text refusal.BadName = codes "bad name"
+refusal_text refusal.UnknownChain = codes "unknown chain"
+refusal_text refusal.OwnChain = codes "own chain"
+refusal_text refusal.UnknownClient = codes "unknown client"
+refusal_text refusal.NotPublished = codes "not published"
+refusal_text refusal.WrongHeader = codes "wrong header"
+refusal_text refusal.UnknownConnection = codes "unknown connection"
+refusal_text refusal.WrongState = codes "wrong state"
+refusal_text refusal.WrongPeer = codes "wrong peer"
+refusal_text refusal.NoConsensus = codes "no consensus state"
+refusal_text refusal.BadProof = codes "bad proof"
+refusal_text refusal.WrongSelfClient = codes "wrong self client"
+refusal_text refusal.UnknownPort = codes "unknown port"
+refusal_text refusal.UnknownChannel = codes "unknown channel"
+refusal_text refusal.WrongOrder = codes "wrong order"
+refusal_text refusal.WrongVersion = codes "wrong version"
+refusal_text refusal.NoTimeout = codes "no timeout"
+refusal_text refusal.TimeoutPassed = codes "timeout passed"
+refusal_text refusal.AlreadyReceived = codes "already received"
+refusal_text refusal.OutOfOrder = codes "out of order"
+refusal_text refusal.NoCommitment = codes "no commitment"
+refusal_text refusal.NotTimedOut = codes "not timed out"
+refusal_text refusal.TooLarge = codes "too large"
+refusal_text refusal.Poor = codes "poor"
+refusal_text refusal.CloseRefused = codes "close refused"
+refusal_text refusal.TimeBack = codes "time goes back"
+refusal_text refusal.TableFull = codes "table full"
+refusal_text refusal.NumberFull = codes "number full"
+refusal_text refusal.BadMessage = codes "bad message"
+refusal_text refusal.Pruned = codes "pruned"
+
+-- a refusal's number, and the words that say why
 abbrev pub IsRefusedText : Refusal → Text → Type 0
-IsRefusedText refusal text = (why : Text) × (text ≡ refused_text (number_of refusal) why)
+IsRefusedText why text = text ≡ refused_text (number_of why) (refusal_text why)
 
 -- a reply without the braces round it
 abbrev pub IsReplyText : Reply → Text → Type 0
 IsReplyText (reply.Ok given) text = text ≡ ok_text (effect_text given)
-IsReplyText (reply.No refusal) text = IsRefusedText refusal text
+IsReplyText (reply.No why) text = IsRefusedText why text
 
 -- ---- answers
 
@@ -113,22 +144,3 @@ AreLinesText lines text = (texts : List Text) × AllZip IsLineText lines texts �
 -- the first line: how many entries there are, and the last place of a log
 abbrev pub resumed_text : ℕ → ℕ → Text
 resumed_text entries log_place = codes "{\"resumed\":{\"entries\":" ++ (decimal entries ++ (codes ",\"at\":" ++ (decimal log_place ++ codes "}}\n")))
-
--- ---- what is written
-
--- The lines that waited are written, and perhaps more, and others wait. What they tell is of what the world keeps, where so it was with what waited.
-pub record ServesOn {S : Type 0} (shows : Held S → State) (old : Node S) (waited : List NodeLine) (before : Option Text) (new : Node S) (waiting : List NodeLine) (after : Option Text) : Type 0 where
-  pub lines : List NodeLine
-  pub text : Text
-  pub texts : AreLinesText lines text
-  pub written : Appends before after text
-  pub tells : TellsOn shows old (answers_in waited) new (answers_in (lines ++ waiting))
-
--- The first line is written, and then lines. What they tell of events is of what the world keeps.
-pub record HasTold {S : Type 0} (shows : Held S → State) (old : Node S) (before : Option Text) (new : Node S) (after : Option Text) : Type 0 where
-  pub log_place : ℕ
-  pub lines : List NodeLine
-  pub text : Text
-  pub texts : AreLinesText lines text
-  pub written : Appends before after (resumed_text (node_end old).place log_place ++ text)
-  pub tells : TellsOn shows old [] new (answers_in lines)

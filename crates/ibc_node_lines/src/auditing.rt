@@ -1,9 +1,11 @@
 //! What an audit finds is told.
 
 ghost use Rattle.std.specs.Prelude.{◌≡◌, OnOk};
+ghost use Rattle.std.specs.Io.KnownBytes.{Appends};
 ghost use Rattle.ibc_node.specs.Audits.{FindsLawful};
 ghost use Rattle.ibc_node.specs.declared.fault.NodeFault.TheVariants.{OtherAnswer};
-ghost use Rattle.ibc_node_lines.specs.Audited.{EndsAsFound, fault_of};
+ghost use Rattle.ibc_node_lines.specs.Audited.{EndsAsFound, TellsLawful, fault_of};
+ghost use Rattle.ibc_node_lines.specs.OtherLines.{lawful_text};
 
 use crate::answers::{lawful, unlawful};
 use crate::serving::write;
@@ -22,6 +24,7 @@ pub fn tell_audit<W: Write>(
 ) -> Result<(), NodeFault>
     ensures lawful { OnOk result (FindsLawful found.now) }
     ensures ends { EndsAsFound found.now result }
+    ensures told { OnOk result (TellsLawful found.now (W.contents output.old) (W.contents output.new)) }
 {
     match found {
         JournalAudit::Lawful { entries } => tell_lawful(alloc, *entries, output),
@@ -29,7 +32,9 @@ pub fn tell_audit<W: Write>(
     }
 }
 
-fn tell_lawful<W: Write>(alloc: Global, entries: u32, output: &mut W) -> Result<(), NodeFault> {
+fn tell_lawful<W: Write>(alloc: Global, entries: u32, output: &mut W) -> Result<(), NodeFault>
+    ensures { OnOk result (Appends (W.contents output.old) (W.contents output.new) (lawful_text entries)) }
+{
     let text = lawful(alloc, entries)?;
     write(output, text.as_str())
 }

@@ -1,10 +1,12 @@
 //! A node, as the steps of a script see it.
 
-ghost use Rattle.std.specs.Prelude.{◌≡◌, ◌++◌, ◌∷◌, [], IfOk, IsTrue, OnOk};
+ghost use Rattle.std.specs.Prelude.{◌≡◌, ◌++◌, ◌∷◌, [], List, ℕ, is_some, option_map, slice_get, IfOk, IsTrue, OnOk};
 ghost use Rattle.sqlite.specs.Held.{state};
-ghost use Rattle.ibc_machine.specs.ledger.Ledgers.{chain_of};
-ghost use Rattle.ibc_node.specs.Nodes.{TellsOn};
-ghost use Rattle.ibc_node_lines.specs.Desks.{desk_chains};
+ghost use Rattle.ibc_machine.specs.ledger.Ledgers.{chain_of, state_of};
+ghost use Rattle.ibc_journal.specs.Tables.{JournalItem};
+ghost use Rattle.ibc_script_worlds.specs.WorldChains.{plans_of, proof_in};
+ghost use Rattle.ibc_node.specs.Nodes.{node_world, HasKept, TellsOn};
+ghost use Rattle.ibc_node_lines.specs.Desks.{desk_chains, RunsStep, TellsEvent};
 
 use ibc_ids::{Account, Bytes, ChannelId, Denom, Key, PortId, Refusal};
 use ibc_ledger::Ledger;
@@ -85,13 +87,17 @@ impl<S: Alter + Drop> Desk<S> {
     }
 
     /// Whether there is a chain of this number.
-    pub fn has_chain(&self, chain: u8) -> bool {
+    pub fn has_chain(&self, chain: u8) -> bool
+        ensures { result ≡ is_some (slice_get (node_world self.now.node).ledgers chain) }
+    {
         self.ledger(chain).is_some()
     }
 
     /// Asks the node for an event, and tells what came of it.
     pub fn take(&mut self, log_place: u32, event: Event) -> Result<Vec<(u8, KeptAnswer)>, NodeFault>
-        ensures { IfOk result (λ told. TellsOn (state S.Store) self.old.node [] self.new.node told.items) }
+        ensures tells { IfOk result (λ told. TellsOn (state S.Store) self.old.node [] self.new.node told.items) }
+        ensures asked { (text : List ℕ) (items : List JournalItem) → HasKept text items self.old.node
+            → IfOk result (λ told. TellsEvent log_place text items self.old.node event told.items self.new.node) }
     {
         let chain = chain_of(&event);
         let kept = self.node.take(log_place, event)?;
@@ -107,7 +113,8 @@ impl<S: Alter + Drop> Desk<S> {
         log_place: u32,
         step: Step,
     ) -> Result<Vec<(u8, KeptAnswer)>, NodeFault>
-        ensures { IfOk result (λ told. TellsOn (state S.Store) self.old.node [] self.new.node told.items) }
+        ensures tells { IfOk result (λ told. TellsOn (state S.Store) self.old.node [] self.new.node told.items) }
+        ensures ran { IfOk result (λ told. RunsStep (state S.Store) names.now log_place step self.old.node told.items self.new.node) }
     {
         if names.len() > 8 {
             drop(step);
@@ -142,6 +149,7 @@ impl<S: Alter + Drop> Desk<S> {
     fn tell(&mut self, chain: u8, kept: KeptAnswer) -> Result<Reply, Refusal>
         ensures node { self.new.node ≡ self.old.node }
         ensures told { OnOk result (self.new.told.items ≡ self.old.told.items ++ (chain, kept) ∷ []) }
+        ensures log_place { self.new.log_place ≡ self.old.log_place }
     {
         let reply = kept.reply.clone()?;
         match self.told.push((chain, kept)) {
@@ -154,7 +162,10 @@ impl<S: Alter + Drop> Desk<S> {
         }
     }
 
-    fn ledger(&self, chain: u8) -> Option<&Ledger> {
+    // The ledger of a chain, where there is one.
+    fn ledger(&self, chain: u8) -> Option<&Ledger>
+        ensures { option_map (λ ledger. ledger.now.ledger) result ≡ slice_get (node_world self.now.node).ledgers chain }
+    {
         self.node.world().ledger(chain)
     }
 }
@@ -207,13 +218,9 @@ impl<S: Alter + Drop> Chains for Desk<S> {
     }
 
     fn proof(&self, chain: u8, height: u64, key: &Key) -> Result<Option<Proof>, Refusal> {
-        let Some(ledger) = self.ledger(chain) else {
-            return Ok(None);
-        };
-        match ledger.query_proof(height, key) {
-            Ok(proof) => Ok(Some(proof)),
-            Err(Refusal::NoConsensus) => Ok(None),
-            Err(refusal) => Err(refusal),
+        match self.ledger(chain) {
+            Some(ledger) => ledger_proof(ledger, height, key),
+            None => Ok(None),
         }
     }
 
@@ -224,19 +231,15 @@ impl<S: Alter + Drop> Chains for Desk<S> {
 
     fn working_time(&self, chain: u8) -> Result<u64, Refusal> {
         match self.ledger(chain) {
-            Some(ledger) => {
-                let view = ledger.view()?;
-                Ok(view.working_time())
-            }
+            Some(ledger) => ledger_time(ledger),
             None => Ok(0),
         }
     }
 
     fn plans(&self, first: u8, second: u8) -> Result<(Vec<Message>, Vec<Message>), Refusal> {
-        match (self.ledger(first), self.ledger(second)) {
-            (Some(first), Some(second)) => plans_between(self.alloc, first, second),
-            _ => Ok((Vec::new(self.alloc), Vec::new(self.alloc))),
-        }
+        let first = self.ledger(first);
+        let second = self.ledger(second);
+        plans_if_there(self.alloc, first, second)
     }
 }
 
@@ -257,5 +260,38 @@ impl<S: Alter + Drop> Holdings for Desk<S> {
             Some(ledger) => ledger.all_notes(),
             None => Ok(Vec::new(self.alloc)),
         }
+    }
+}
+
+// The proof of what a height of a ledger has at a key, none where the ledger doesn't keep it.
+fn ledger_proof(ledger: &Ledger, height: u64, key: &Key) -> Result<Option<Proof>, Refusal>
+    ensures { IfOk result (λ found. found ≡ proof_in height key.now ledger.now.ledger) }
+{
+    match ledger.query_proof(height, key) {
+        Ok(proof) => Ok(Some(proof)),
+        Err(Refusal::NoConsensus) => Ok(None),
+        Err(refusal) => Err(refusal),
+    }
+}
+
+// The time of a ledger's working block.
+fn ledger_time(ledger: &Ledger) -> Result<u64, Refusal>
+    ensures { IfOk result (λ time. time ≡ (state_of ledger.now.ledger).chain.time) }
+{
+    let view = ledger.view()?;
+    Ok(view.working_time())
+}
+
+// What relayers plan between two ledgers, nothing where one isn't there.
+fn plans_if_there(
+    alloc: Global,
+    first: Option<&Ledger>,
+    second: Option<&Ledger>,
+) -> Result<(Vec<Message>, Vec<Message>), Refusal>
+    ensures { IfOk result (λ plans. (plans.0.items, plans.1.items) ≡ plans_of (option_map (λ ledger. ledger.now.ledger) first.entry) (option_map (λ ledger. ledger.now.ledger) second.entry)) }
+{
+    match (first, second) {
+        (Some(first), Some(second)) => plans_between(alloc, first, second),
+        (Some(_), None) | (None, _) => Ok((Vec::new(alloc), Vec::new(alloc))),
     }
 }

@@ -1,5 +1,8 @@
 //! Entries as lines, and an audit of them.
 
+ghost use Rattle.std.specs.Prelude.{OnOk};
+ghost use Rattle.ibc_node_lines.specs.Audited.{TellsSomeLawful};
+
 use crate::LineFault;
 use crate::auditing::tell_audit;
 use crate::request::bytes_of;
@@ -15,13 +18,15 @@ const TOGETHER: usize = 100;
 
 /// Audits entries that are lines, from this genesis on, and tells what is found, as `tell_audit` does. Each line is an object with a chain, a
 /// kind, an event and an answer, as a question for kept entries is answered. Fault: `NoEntry` with the first place whose line spells none;
-/// what an audit of a journal with these entries finds.
+/// what an audit of a journal with these entries finds. It ends well only where that is a lawful run, and is told.
 pub fn audit_lines<R: Read + Drop, W: Write>(
     alloc: Global,
     genesis: &[u8],
     input: BufReader<R>,
     output: &mut W,
-) -> Result<(), NodeFault> {
+) -> Result<(), NodeFault>
+    ensures { OnOk result (TellsSomeLawful (W.contents output.old) (W.contents output.new)) }
+{
     let conn = journal_of(alloc, genesis, input)?;
     let mut conn = conn;
     let found = audit_journal(alloc, &mut conn, Some(genesis))?;

@@ -1,5 +1,8 @@
 //! Why a line asks for nothing.
 
+ghost use Rattle.std.specs.Prelude.{◌≡◌};
+ghost use Rattle.ibc_node_lines.specs.OtherLines.{fault_text};
+
 use std::fmt;
 
 /// Why a line asks for nothing.
@@ -28,7 +31,9 @@ pub enum LineFault {
 
 impl LineFault {
     // What is wrong.
-    fn text(&self) -> &'static str {
+    pub(crate) fn text(&self) -> &'static str
+        ensures { result.now ≡ fault_text self.now }
+    {
         match self {
             LineFault::NotText => "the line is no UTF-8",
             LineFault::NotJson => "the line is no JSON",

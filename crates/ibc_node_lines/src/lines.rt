@@ -3,7 +3,7 @@
 ghost use Rattle.std.specs.Prelude.{◌≡◌, ◌==◌, ◌++◌, codes, length, map, string_bytes, IfOk, OnOk};
 ghost use Rattle.hex.specs.Hex.{encode_lower};
 ghost use Rattle.ibc_ids.specs.Texts.{Text};
-ghost use Rattle.ibc_node_lines.specs.Told.{named_text, sequence_text, block_text, effect_text, ok_text, refused_text, answer_text, comma_behind, joined, list_text, answers_text, IsRefusedText, IsReplyText, IsAnswerText, AreAnswersText, IsLineText, AreLinesText};
+ghost use Rattle.ibc_node_lines.specs.Told.{named_text, sequence_text, block_text, effect_text, ok_text, refused_text, refusal_text, answer_text, comma_behind, joined, list_text, answers_text, IsRefusedText, IsReplyText, IsAnswerText, AreAnswersText, IsLineText, AreLinesText};
 
 use hex::encode as encode_hex;
 use ibc_ids::Refusal;
@@ -159,8 +159,46 @@ pub fn reply_text(alloc: Global, reply: &Reply) -> Result<String, AllocError>
 pub fn refused(alloc: Global, refusal: Refusal) -> Result<String, AllocError>
     ensures { IfOk result (λ text. IsRefusedText refusal (string_bytes text)) }
 {
-    let why = format!(in alloc; "{refusal}")?;
-    refused_for(alloc, refusal.number(), why.as_str())
+    refused_for(alloc, refusal.number(), words_of(refusal))
+}
+
+// The words that say why.
+fn words_of(refusal: Refusal) -> &'static str
+    ensures { result.now ≡ refusal_text refusal }
+{
+    match refusal {
+        Refusal::NoMemory => "no memory",
+        Refusal::BadName => "bad name",
+        Refusal::UnknownChain => "unknown chain",
+        Refusal::OwnChain => "own chain",
+        Refusal::UnknownClient => "unknown client",
+        Refusal::NotPublished => "not published",
+        Refusal::WrongHeader => "wrong header",
+        Refusal::UnknownConnection => "unknown connection",
+        Refusal::WrongState => "wrong state",
+        Refusal::WrongPeer => "wrong peer",
+        Refusal::NoConsensus => "no consensus state",
+        Refusal::BadProof => "bad proof",
+        Refusal::WrongSelfClient => "wrong self client",
+        Refusal::UnknownPort => "unknown port",
+        Refusal::UnknownChannel => "unknown channel",
+        Refusal::WrongOrder => "wrong order",
+        Refusal::WrongVersion => "wrong version",
+        Refusal::NoTimeout => "no timeout",
+        Refusal::TimeoutPassed => "timeout passed",
+        Refusal::AlreadyReceived => "already received",
+        Refusal::OutOfOrder => "out of order",
+        Refusal::NoCommitment => "no commitment",
+        Refusal::NotTimedOut => "not timed out",
+        Refusal::TooLarge => "too large",
+        Refusal::Poor => "poor",
+        Refusal::CloseRefused => "close refused",
+        Refusal::TimeBack => "time goes back",
+        Refusal::TableFull => "table full",
+        Refusal::NumberFull => "number full",
+        Refusal::BadMessage => "bad message",
+        Refusal::Pruned => "pruned",
+    }
 }
 
 fn refused_for(alloc: Global, number: u8, why: &str) -> Result<String, AllocError>

@@ -1,5 +1,9 @@
 //! What a line asks for.
 
+ghost use Rattle.std.specs.Prelude.{◌≡◌, Ok, IfErr, IfOk};
+ghost use Rattle.hex.specs.Hex.{decode_of};
+ghost use Rattle.ibc_node_lines.specs.Requests.{hex_fault_of, IsHexFault};
+
 use crate::{LineFault, SingleSteps};
 use hex::{FromHexError, decode as decode_hex};
 use ibc_ids::{ChannelId, Denom, Key, Refusal};
@@ -181,11 +185,24 @@ fn message_of(alloc: Global, value: &Value) -> Result<Event, LineFault> {
 }
 
 /// The bytes that a text spells in hex.
-pub fn bytes_of(alloc: Global, text: &str) -> Result<Vec<u8>, LineFault> {
+pub fn bytes_of(alloc: Global, text: &str) -> Result<Vec<u8>, LineFault>
+    ensures ok { IfOk result (λ bytes. decode_of text.now ≡ Ok bytes.items) }
+    ensures err { IfErr result (IsHexFault text.now) }
+{
     match decode_hex(alloc, text.as_bytes()) {
         Ok(bytes) => Ok(bytes),
-        Err(FromHexError::OutOfMemory) => Err(LineFault::NoMemory),
-        Err(_) => Err(LineFault::NoHex),
+        Err(error) => Err(hex_fault(error)),
+    }
+}
+
+fn hex_fault(error: FromHexError) -> LineFault
+    ensures { result ≡ hex_fault_of error }
+{
+    match error {
+        FromHexError::InvalidHexCharacter { .. } => LineFault::NoHex,
+        FromHexError::OddLength => LineFault::NoHex,
+        FromHexError::InvalidStringLength => LineFault::NoHex,
+        FromHexError::OutOfMemory => LineFault::NoMemory,
     }
 }
 

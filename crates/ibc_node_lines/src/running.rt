@@ -53,7 +53,8 @@ pub fn run_audit<S: Start, W: Write>(
     output: &mut W,
 ) -> Result<Connection<FileStore<FileFrom<S>>>, NodeFault>
     ensures { (text : List ℕ) (items : List JournalItem) → HoldsWholeJournal (image_at S.Start) text items
-        → IfOk result (λ conn. HasCleanDisk (file_state conn) → HasAudited (option_copied genesis.entry) text items (file_state conn)) }
+        → IfOk result (λ conn. HasCleanDisk (file_state conn)
+        → HasAudited (option_copied genesis.entry) text items (file_state conn) (W.contents output.old) (W.contents output.new)) }
 {
     let conn = open_journal(rt, path, start)?;
     let mut conn = conn;
@@ -69,7 +70,7 @@ fn audit_told<S: Alter, W: Write>(
     output: &mut W,
 ) -> Result<(), NodeFault>
     ensures audited { (text : List ℕ) (items : List JournalItem) → IsAtRest (state S.Store conn.old) text items
-        → HasCleanDisk (state S.Store conn.new) → OnOk result (HasAudited (option_copied genesis.entry) text items (state S.Store conn.new)) }
+        → HasCleanDisk (state S.Store conn.new) → OnOk result (HasAudited (option_copied genesis.entry) text items (state S.Store conn.new) (W.contents output.old) (W.contents output.new)) }
     ensures which { OnOk result ((state S.Store conn.old).now.schema ≡ journal_schema) }
     ensures crash { Survives (state S.Store conn.old) (state S.Store conn.new) (LeavesNothing (state S.Store conn.old)) }
 {

@@ -1,13 +1,15 @@
 //! A node answers lines, in their order.
 
-ghost use Rattle.std.specs.Prelude.{◌≡◌, ◌⊎◌, [], List, ℕ, IfOk, OnOk};
+ghost use Rattle.std.specs.Prelude.{◌≡◌, ◌⊎◌, ◌<◌, ◌≤◌, ◌-◌, [], List, ℕ, length, nat_lt, true, IfOk, IsTrue, MatchResult, OnOk};
 ghost use Rattle.std.specs.Io.KnownBytes.{Appends, Keeps};
 ghost use Rattle.sqlite.specs.State.{HasCleanDisk};
 ghost use Rattle.sqlite.specs.Held.{state};
-ghost use Rattle.ibc_ids.specs.Texts.{Text};
 ghost use Rattle.ibc_journal.specs.Tables.{JournalItem};
 ghost use Rattle.ibc_node.specs.Nodes.{node_end, node_journal, node_waiting, with_waiting, HasJournal, HasKept, HasAll, TellsOn};
-ghost use Rattle.ibc_node_lines.specs.Told.{answers_in, answers_of, resumed_text, AreLinesText, HasTold, ServesOn};
+ghost use Rattle.ibc_node_lines.specs.Desks.{IsOnlyRead, RunsStep, TellsEvent};
+ghost use Rattle.ibc_node_lines.specs.OtherLines.{IsMistakenLine};
+ghost use Rattle.ibc_node_lines.specs.Sessions.{HasOneMore, HasTold, HasWritten, IsFairLine, ServesOn};
+ghost use Rattle.ibc_node_lines.specs.Told.{answers_in, answers_of, resumed_text};
 
 use crate::answers::{mistaken, resumed};
 use crate::lines::lines_text;
@@ -158,29 +160,43 @@ impl<S: Alter + Drop> Server<S> {
         Ok(())
     }
 
-    // Settles where as many lines wait as may share a commit, or where no whole line has come.
+    // Settles where as many lines wait as may share a commit, or where no whole line has come. Fewer may wait behind it.
     fn settle_if_due<R: Read, W: Write>(
         &mut self,
         input: &BufReader<R>,
         output: &mut W,
         batch: usize,
     ) -> Result<(), NodeFault>
-        ensures { OnOk result (ServesOn (state S.Store) self.old.desk.node self.old.told.items (W.contents output.old) self.new.desk.node self.new.told.items (W.contents output.new)) }
+        ensures serves { OnOk result (ServesOn (state S.Store) self.old.desk.node self.old.told.items (W.contents output.old) self.new.desk.node self.new.told.items (W.contents output.new)) }
+        ensures few { OnOk result (length self.new.told.items ≤ batch - 1) }
     {
-        if !self.is_due(input, batch) {
+        if self.may_wait(input, batch) {
             return Ok(());
         }
         self.settle(output)
     }
 
-    // Whether as many lines wait as may share a commit, or no whole line has come.
-    fn is_due<R: Read>(&self, input: &BufReader<R>, batch: usize) -> bool {
-        self.told.len() >= batch || !input.buffer().contains(&b'\n')
+    // Whether more lines may share the commit of those that wait, and a whole line has come.
+    fn may_wait<R: Read>(&self, input: &BufReader<R>, batch: usize) -> bool
+        ensures { IsTrue result → length self.now.told.items < batch }
+    {
+        if self.has_room(batch) {
+            return input.buffer().contains(&b'\n');
+        }
+        false
+    }
+
+    // Whether more lines may share the commit of those that wait.
+    fn has_room(&self, batch: usize) -> bool
+        ensures { result ≡ nat_lt (length self.now.told.items) batch }
+    {
+        self.told.as_slice().len() < batch
     }
 
     // Answers the next line, if there is one.
     fn answer_next<R: Read>(&mut self, input: &mut BufReader<R>) -> Result<bool, NodeFault>
-        ensures { OnOk result (TellsOn (state S.Store) self.old.desk.node (answers_in self.old.told.items) self.new.desk.node (answers_in self.new.told.items)) }
+        ensures tells { OnOk result (TellsOn (state S.Store) self.old.desk.node (answers_in self.old.told.items) self.new.desk.node (answers_in self.new.told.items)) }
+        ensures line { IfOk result (λ there. HasOneMore there self.old.told.items self.new.told.items) }
     {
         let mut line = Vec::new(self.alloc);
         if !read_line(input, &mut line)? {
@@ -201,7 +217,8 @@ impl<S: Alter + Drop> Server<S> {
 
     // Answers a line; the answer is told when its entry is in the journal.
     fn answer(&mut self, line: &[u8]) -> Result<(), NodeFault>
-        ensures { OnOk result (TellsOn (state S.Store) self.old.desk.node (answers_in self.old.told.items) self.new.desk.node (answers_in self.new.told.items)) }
+        ensures tells { OnOk result (TellsOn (state S.Store) self.old.desk.node (answers_in self.old.told.items) self.new.desk.node (answers_in self.new.told.items)) }
+        ensures line { OnOk result (HasOneMore true self.old.told.items self.new.told.items) }
     {
         self.number = self.number.saturating_add(1);
         let told = self.line_for(line)?;
@@ -213,6 +230,7 @@ impl<S: Alter + Drop> Server<S> {
     fn line_for(&mut self, line: &[u8]) -> Result<NodeLine, NodeFault>
         ensures answers { IfOk result (λ told. TellsOn (state S.Store) self.old.desk.node [] self.new.desk.node (answers_of told)) }
         ensures told { self.new.told.items ≡ self.old.told.items }
+        ensures fair { IfOk result IsFairLine }
     {
         match read_request(self.alloc, &self.steps, line) {
             Ok(request) => self.line_of(request),
@@ -224,6 +242,7 @@ impl<S: Alter + Drop> Server<S> {
     fn line_of(&mut self, request: NodeRequest) -> Result<NodeLine, NodeFault>
         ensures answers { IfOk result (λ told. TellsOn (state S.Store) self.old.desk.node [] self.new.desk.node (answers_of told)) }
         ensures told { self.new.told.items ≡ self.old.told.items }
+        ensures fair { IfOk result IsFairLine }
     {
         match request {
             NodeRequest::Do { log_place, asked } => self.act(log_place, asked),
@@ -235,6 +254,7 @@ impl<S: Alter + Drop> Server<S> {
     fn act(&mut self, log_place: u32, asked: NodeAction) -> Result<NodeLine, NodeFault>
         ensures answers { IfOk result (λ told. TellsOn (state S.Store) self.old.desk.node [] self.new.desk.node (answers_of told)) }
         ensures told { self.new.told.items ≡ self.old.told.items }
+        ensures fair { IfOk result IsFairLine }
     {
         if self.has_come(log_place) {
             drop(asked);
@@ -255,6 +275,7 @@ impl<S: Alter + Drop> Server<S> {
     fn again(&mut self, log_place: u32) -> Result<NodeLine, NodeFault>
         ensures answers { IfOk result (λ told. TellsOn (state S.Store) self.old.desk.node [] self.new.desk.node (answers_of told)) }
         ensures told { self.new.told.items ≡ self.old.told.items }
+        ensures fair { IfOk result IsFairLine }
     {
         Ok(NodeLine::Answers(self.desk.node.again(log_place)?))
     }
@@ -262,7 +283,10 @@ impl<S: Alter + Drop> Server<S> {
     // Asks for an event.
     fn take(&mut self, log_place: u32, event: Event) -> Result<NodeLine, NodeFault>
         ensures answers { IfOk result (λ told. TellsOn (state S.Store) self.old.desk.node [] self.new.desk.node (answers_of told)) }
+        ensures asked { (text : List ℕ) (items : List JournalItem) → HasKept text items self.old.desk.node
+            → IfOk result (λ told. TellsEvent log_place text items self.old.desk.node event (answers_of told) self.new.desk.node) }
         ensures told { self.new.told.items ≡ self.old.told.items }
+        ensures fair { IfOk result IsFairLine }
     {
         Ok(NodeLine::Answers(self.desk.take(log_place, event)?))
     }
@@ -271,6 +295,7 @@ impl<S: Alter + Drop> Server<S> {
     fn act_step(&mut self, log_place: u32, step: Step) -> Result<NodeLine, NodeFault>
         ensures answers { IfOk result (λ told. TellsOn (state S.Store) self.old.desk.node [] self.new.desk.node (answers_of told)) }
         ensures told { self.new.told.items ≡ self.old.told.items }
+        ensures fair { IfOk result IsFairLine }
     {
         match question_of(step) {
             Ok(question) => self.tell(question),
@@ -281,7 +306,9 @@ impl<S: Alter + Drop> Server<S> {
     // Takes a step that asks for events.
     fn ask_by(&mut self, log_place: u32, step: Step) -> Result<NodeLine, NodeFault>
         ensures answers { IfOk result (λ told. TellsOn (state S.Store) self.old.desk.node [] self.new.desk.node (answers_of told)) }
+        ensures ran { IfOk result (λ told. RunsStep (state S.Store) self.old.names.items log_place step self.old.desk.node (answers_of told) self.new.desk.node) }
         ensures told { self.new.told.items ≡ self.old.told.items }
+        ensures fair { IfOk result IsFairLine }
     {
         Ok(NodeLine::Answers(self.desk.act(self.names.as_slice(), log_place, step)?))
     }
@@ -289,7 +316,9 @@ impl<S: Alter + Drop> Server<S> {
     // Answers a question.
     fn tell(&mut self, question: NodeQuestion) -> Result<NodeLine, NodeFault>
         ensures answers { IfOk result (λ told. TellsOn (state S.Store) self.old.desk.node [] self.new.desk.node (answers_of told)) }
+        ensures read { OnOk result (IsOnlyRead (state S.Store) self.old.desk.node self.new.desk.node) }
         ensures told { self.new.told.items ≡ self.old.told.items }
+        ensures fair { IfOk result IsFairLine }
     {
         let text = tell(self.alloc, &mut self.desk, question)?;
         self.other(text)
@@ -297,12 +326,23 @@ impl<S: Alter + Drop> Server<S> {
 
     // A line that tells of no event: a text, or what is wrong with what was read.
     fn other(&self, text: Result<String, LineFault>) -> Result<NodeLine, NodeFault>
-        ensures { IfOk result (λ told. answers_of told ≡ []) }
+        ensures none { IfOk result (λ told. answers_of told ≡ []) }
+        ensures text { IfOk result (λ told. MatchResult text (λ it. told ≡ NodeLine.Other it)
+            (λ why. IsMistakenLine self.now.number why told)) }
     {
         match text {
             Ok(text) => Ok(NodeLine::Other(text)),
-            Err(LineFault::NoMemory) => Err(NodeFault::NoMemory),
-            Err(why) => Ok(NodeLine::Other(mistaken(self.alloc, self.number, why)?)),
+            Err(why) => self.mistake(why),
+        }
+    }
+
+    // What is wrong with the line that was read last.
+    fn mistake(&self, why: LineFault) -> Result<NodeLine, NodeFault>
+        ensures { IfOk result (IsMistakenLine self.now.number why) }
+    {
+        match why {
+            LineFault::NoMemory => Err(NodeFault::NoMemory),
+            _ => Ok(NodeLine::Other(mistaken(self.alloc, self.number, why)?)),
         }
     }
 
@@ -313,6 +353,7 @@ impl<S: Alter + Drop> Server<S> {
             → HasCleanDisk (node_journal (state S.Store) self.new.desk.node) → (W.contents output.new ≡ W.contents output.old)
             ⊎ HasJournal (state S.Store) text (with_waiting items self.old.desk.node) self.new.desk.node }
         ensures serves { OnOk result (ServesOn (state S.Store) self.old.desk.node self.old.told.items (W.contents output.old) self.new.desk.node self.new.told.items (W.contents output.new)) }
+        ensures written { OnOk result (HasWritten self.old.told.items (W.contents output.old) (W.contents output.new)) }
         ensures none { OnOk result (node_waiting self.new.desk.node ≡ []) }
         ensures cleared { OnOk result (self.new.told.items ≡ []) }
     {
@@ -324,7 +365,7 @@ impl<S: Alter + Drop> Server<S> {
 
     // Writes the lines that wait.
     fn write_told<W: Write>(&self, output: &mut W) -> Result<(), NodeFault>
-        ensures { OnOk result ((text : Text) × AreLinesText self.now.told.items text × Appends (W.contents output.old) (W.contents output.new) text) }
+        ensures { OnOk result (HasWritten self.now.told.items (W.contents output.old) (W.contents output.new)) }
     {
         let text = lines_text(self.alloc, self.told.as_slice())?;
         write(output, text.as_str())

@@ -24,10 +24,13 @@ returns-clause-began g c genesis items has clean =
     let old = state g.S.Store c.args.conn.now in
     let new = state g.S.Store c.query_all.new.self in
     let shown = began old new genesis items has _ (c.in_ok-rows.ensures.ok clean) in
-    c.only_beginning-found.ensures genesis (c.as_slice.ensures.value ∙ shown)
+    c.only_beginning-found.ensures.began genesis (c.as_slice.ensures.value ∙ shown)
 
 pub returns-clause-same : goal.returns-clause-same
 returns-clause-same g c genesis items has clean =
     let old = state g.S.Store c.args.conn.now in
     let new = state g.S.Store c.query_all.new.self in
     on_any c.only_beginning-found.result _ (began_unchanged old new genesis items has _ (c.in_ok-rows.ensures.ok clean))
+
+pub returns-clause-faults : goal.returns-clause-faults
+returns-clause-faults g c = c.only_beginning-found.ensures.faults

@@ -22,3 +22,6 @@ returns-in-Ok-clause-asked c =
 
 pub returns-in-Ok-clause-by : goal.returns-in-Ok-clause-by
 returns-in-Ok-clause-by c = c.in-Ok.ensures.by
+
+pub returns-in-Err-clause-faults : goal.returns-in-Err-clause-faults
+returns-in-Err-clause-faults c = c.in-Err.ensures.faults

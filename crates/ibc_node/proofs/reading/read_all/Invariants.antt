@@ -14,6 +14,7 @@ invariant-reading g l =
     let old = state g.S.Store l.fn.conn in
     let now = state g.S.Store l.conn in
     record {
+      place : l.past.end.place ≡ l._turn;
       kept : (genesis : List ℕ) (items : List JournalItem) → IsJournal old.now genesis items → HasCleanDisk now → IsJournal now.now genesis items;
       read : (items : List JournalItem) → IsJournal old.now l.genesis items → HasCleanDisk now → HasReadTo l.genesis items l.past.end;
       replayed : (items : List JournalItem) → IsJournal old.now l.genesis items → HasCleanDisk now → HasReplayed l.fn.world (take l.past.end.place items) l.past.world;

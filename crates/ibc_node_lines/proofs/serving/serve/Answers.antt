@@ -5,7 +5,7 @@ use Rattle.sqlite.specs.State.{HasCleanDisk}
 use Rattle.ibc_journal.proofs.Restarted.{lasts_at_rest}
 use Rattle.ibc_node.specs.Nodes.{HasAll, StaysBeside, node_connection, node_journal}
 use Rattle.ibc_node.proofs.Staying.{has_all}
-use Rattle.ibc_node_lines.specs.Told.{HasTold}
+use Rattle.ibc_node_lines.specs.Sessions.{HasTold}
 use Rattle.ibc_node_lines.proofs.serving.serve.Goals as goal
 
 pub returns-clause-all : goal.returns-clause-all

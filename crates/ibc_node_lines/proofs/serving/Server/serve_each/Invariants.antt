@@ -1,5 +1,5 @@
 use Rattle.sqlite.specs.Held.{state}
-use Rattle.ibc_node_lines.specs.Told.{ServesOn}
+use Rattle.ibc_node_lines.specs.Sessions.{ServesOn}
 use Rattle.ibc_node_lines.proofs.serving.Server.serve_each.Given as goal
 
 abbrev pub invariant-lines : goal.invariant-lines
