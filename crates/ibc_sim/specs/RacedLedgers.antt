@@ -6,8 +6,8 @@ use Rattle.ibc_ledger.specs.LedgerModel.{LedgerModel}
 use Rattle.ibc_ledger_lock.specs.ReceiptsAndReadings.{HasAnswered, ReceiptModel}
 use Rattle.ibc_world_core.specs.WorldAudits.{AreOfOneWorld}
 use Rattle.ibc_script.specs.declared.script.Step.{Step}
-use Rattle.ibc_script_worlds.specs.KeptReceipts.{told_by}
-use Rattle.ibc_script_worlds.specs.Racing.{AreTaken}
+use Rattle.ibc_script_races.specs.KeptReceipts.{told_by}
+use Rattle.ibc_script_races.specs.Racing.{AreTaken}
 
 -- the main thread took these steps, and the ledgers have answered what it asked of their chains
 abbrev pub HaveTaken : List Step → List LedgerModel → Type 0

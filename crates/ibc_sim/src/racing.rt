@@ -6,7 +6,7 @@ ghost use Rattle.ibc_machine.specs.chain.Genesis.{genesis_state};
 ghost use Rattle.ibc_ledger_lock.specs.ReceiptsAndReadings.{HasAnswered, IsOfWorld};
 ghost use Rattle.ibc_race.specs.SharedWorlds.{HasItsBook};
 ghost use Rattle.ibc_script_cli.specs.Runs.{asking_acts};
-ghost use Rattle.ibc_script_worlds.specs.Racing.{Takes};
+ghost use Rattle.ibc_script_races.specs.Racing.{Takes};
 ghost use Rattle.ibc_sim.specs.RacedLedgers.{AreLeftBy};
 
 use ibc_ledger::Ledger;

@@ -1,6 +1,6 @@
 -- What the step asked is taken, whatever was written.
 use Rattle.ibc_script_cli.specs.Runs.{asking_acts}
-use Rattle.ibc_script_worlds.proofs.Raced.{unseen}
+use Rattle.ibc_script_races.proofs.Raced.{unseen}
 use Rattle.ibc_sim.proofs.racing.take.Goals as goal
 
 pub returns-in-Ok : goal.returns-in-Ok

@@ -4,8 +4,8 @@ use Rattle.std.proofs.lemmas.List.Elements.{All-weaker}
 use Rattle.ibc_ledger.specs.LedgerModel.{LedgerModel}
 use Rattle.ibc_ledger_lock.specs.ReceiptsAndReadings.{HasAnswered, IsOfWorld, ReceiptModel}
 use Rattle.ibc_race.proofs.Booked.{at_place}
-use Rattle.ibc_script_worlds.specs.KeptReceipts.{told_by}
-use Rattle.ibc_script_worlds.proofs.Raced.{all_taken}
+use Rattle.ibc_script_races.specs.KeptReceipts.{told_by}
+use Rattle.ibc_script_races.proofs.Raced.{all_taken}
 use Rattle.ibc_sim.proofs.racing.take_all.Goals as goal
 
 pub returns-in-Ok-ledgers_of : goal.returns-in-Ok-ledgers_of
