@@ -240,8 +240,9 @@ class Tries:
         if said.is_proved:
             self.found.update({it: (MISSED, f"the crate is proved with this edit{' and others' * (len(batch) > 1)}") for it in batch})
             return []
-        if not said.has_ended and len(batch) == 1:
-            self.found[batch[0]] = judged_alone(batch[0], said)
+        was_ended = said.status not in (0, 1) and not said.unread()
+        if was_ended or not said.has_ended and len(batch) == 1:
+            self.found.update({it: judged_alone(it, said) for it in batch})
             return []
         if not said.has_ended:
             # (an edit with a bracket too many can make another function unreadable, so each that seems bad is tried alone)
