@@ -71,7 +71,7 @@ class Sums:
         below, (of_crate, words) = {*self.below(crate)}, self.of_crate(crate)
         if below and self.promised is None:
             self.promised = promises.Promises(self.root)
-        of_below = self.promised.sum_of(self.promised.named_by(words | words_of(edit.text), below)) if below else ""
+        of_below = self.promised.sum_of(self.promised.named_by(words | words_of(edit.text), below), below) if below else ""
         return f"{sum_of(edit.text)} {of_crate} {sum_of(of_below)}"
 
     def lines_of(self, crate):
