@@ -22,6 +22,6 @@ returns-in-Ok-ledgers_of g c new =
           let a = at_place Own ledgers 0 first own at in
           let b = at_place Own ledgers k held own there in
           (b.0 ∙ sym a.0, b.1 ∙ sym a.1),
-      All-weaker Own (λ (held : LedgerModel). held.ledger.genesis ≡ g.W.WorldBrand.genesis) (λ held of. of.1) ledgers own,
+      All-weaker Own (λ (held : LedgerModel). held.ledger.genesis ≡ g.W.WorldBrand.genesis) (λ held own_held. own_held.1) ledgers own,
       (receipts, taken, answered),
     )
