@@ -46,13 +46,15 @@ def in_items(path, code, found, owner=""):
             yield from in_items(path, code, item.items, owner if item.kind == "mod" else owner_of(item))
 
 
+def of_file(folder, path):
+    """The functions of one file of a crate."""
+    code = parts.Code(f"{folder}/{path}")
+    return list(in_items(path, code, parts.items(code)))
+
+
 def of_crate(folder):
     """The functions of a crate's files."""
-    found = []
-    for file in parts.under(f"{folder}/src", ".rt"):
-        code = parts.Code(file)
-        found += in_items(os.path.relpath(file, folder), code, parts.items(code))
-    return found
+    return [it for file in parts.under(f"{folder}/src", ".rt") for it in of_file(folder, os.path.relpath(file, folder))]
 
 
 def module_of(path):

@@ -188,7 +188,6 @@ EDITS = [
 ]
 WANTED = {name: wanted for name, *_, wanted in EDITS}
 CODE = [it for it in EDITS if it[0] == "adds_two"]
-NAMES = [it for it in EDITS if it[0] in ("begins_one_later", "names_what_is_gone", *[name for name, *_ in EDITS if "doubl" in name])]
 FORGED = [it for it in EDITS if it[0] in ("any_other_number", "names_what_is_gone", "no_such_name", "stands_nowhere")]
 
 

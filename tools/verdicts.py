@@ -1,4 +1,4 @@
-"""What a check with wrong bodies says of each of them, by the lines that `rt check` prints."""
+"""What a check with wrong bodies says of each of them, by the lines that `rt check` prints, or `rt ci` of the check that it begins with."""
 import re
 
 REFUSED, MISSED, BAD, UNSURE = "refused", "NOT REFUSED", "BAD", "NOT TRIED"
@@ -12,6 +12,11 @@ GOAL = re.compile(r"note: (?:\./)?(\S+?):(\d+):\d+: it is not proved that")
 ERROR = re.compile(r"(?:\./)?((?:src|specs|proofs)/\S+?):(\d+):\d+: error")
 # What a check that came to its end says last, and what of that where the crate is proved. Only advice stands behind it.
 ENDED, PROVED, ADVICE = re.compile(r"logic=(not-)?proved\b"), re.compile(r"logic=proved\b"), "rt: "
+
+
+def is_state_proved(state):
+    """Whether this is said of a function that is proved, as `proved, may wait`; or of a closure, `proved where its callers give what it asks`."""
+    return bool(re.match(r"proved\b", state))
 
 
 class Said:
@@ -28,7 +33,7 @@ class Said:
         last = next((it for it in reversed(self.lines) if not it.startswith(ADVICE)), "")
         self.has_ended = status in (0, 1) and bool(ENDED.match(last)) and any(it.startswith(f"crate {crate}: ") for it in self.lines)
         self.is_proved = status == 0 and self.has_ended and bool(PROVED.match(last))
-        self.names = {name for name, said in self.states.items() if said == ["proved"]}
+        self.names = {name for name, said in self.states.items() if len(said) == 1 and is_state_proved(said[0])}
 
     def called(self, name):
         """The functions of this crate that one calls and that are not proved."""
@@ -42,6 +47,17 @@ class Said:
 
     def first_error(self):
         return next((it for it in self.lines if re.search(r"\berror\b", it)), self.lines[-1])[:200]
+
+
+class SaidByCi(Said):
+    """What `rt ci` printed of one crate: between a head and the verdict what the check printed, and where the crate is kept that line alone."""
+
+    def __init__(self, crate, status, text):
+        verdict = re.search(rf"(?m)^rt: {crate} (proved|NOT PROVED)$", text)
+        head = text.rfind(f"== {crate}\n", 0, verdict.start()) if verdict else -1
+        super().__init__(crate, status, text[head : verdict.start()] if head >= 0 else text)
+        self.is_proved = bool(verdict and verdict[1] == "proved" or re.search(rf"(?m)^rt: {crate} is kept: ", text))
+        self.has_ended = self.is_proved or status == 1 and head >= 0 and sum(bool(ENDED.match(it)) for it in self.lines) == 1
 
 
 def shown(goals, lost):
@@ -78,7 +94,7 @@ class Found:
         of_itself = [it for name, it in self.states if name == called]
         waits = any(CALLED.search(it) for _, it in self.states)
         if len(of_itself) == 1 and not any("could not tell" in it for _, it in self.states):
-            if all(it == "proved" for _, it in self.states):
+            if all(is_state_proved(it) for _, it in self.states):
                 return MISSED, f"{called} is proved with this edit"
             found = shown(self.goals, self.lost)
             if found:

@@ -1,1 +1,4 @@
+pub mod Escaped
 pub mod Lanes
+pub mod Packets
+pub mod Ticks

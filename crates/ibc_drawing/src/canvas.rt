@@ -1,5 +1,8 @@
 //! What is drawn, from the top down.
 
+ghost use Rattle.std.specs.Prelude.{◌≡◌, ◌++◌, ◌+◌, ◌-◌, ◌^◌, ◌∷◌, [], OnOk, find, min, reverse};
+ghost use Rattle.ibc_drawing.specs.Ticks.{end_of_block, is_tick, new_tick};
+
 use crate::escaped::write_escaped;
 use crate::lanes::lane_x;
 use crate::packets::DrawnPackets;
@@ -103,8 +106,10 @@ impl Canvas<'_> {
         }
     }
 
-    /// Goes down.
-    pub fn down(&mut self, by: usize) {
+    /// Goes down, and draws nothing.
+    pub fn down(&mut self, by: usize)
+        ensures { self.new ≡ record self.old { y = min (self.old.y + by) (2 ^ 64 - 1) } }
+    {
         self.y = self.y.saturating_add(by);
     }
 
@@ -188,8 +193,11 @@ impl Canvas<'_> {
         }
     }
 
-    /// The end of a block.
-    pub fn tick(&mut self, chain: u8, height: u64) -> Result<(), AllocError> {
+    /// The end of a block. What comes next stands behind it.
+    pub fn tick(&mut self, chain: u8, height: u64) -> Result<(), AllocError>
+        ensures ticks { OnOk result (self.new.ticks.items ≡ self.old.ticks.items ++ new_tick chain height self.old.y ∷ []) }
+        ensures y { OnOk result (self.new.y ≡ min (self.old.y + TICK_ROW) (2 ^ 64 - 1)) }
+    {
         let y = self.y;
         self.ticks.push(Tick { chain, height, y })?;
         let x = lane_x(chain);
@@ -221,12 +229,37 @@ impl Canvas<'_> {
     }
 
     /// How far down a block of a chain ends; where that isn't known, where the picture is.
-    pub fn y_of(&self, chain: u8, height: u64) -> usize {
-        for tick in self.ticks.iter().rev() {
-            if tick.chain == chain && tick.height == height {
-                return tick.y;
-            }
-        }
-        self.y
+    pub fn y_of(&self, chain: u8, height: u64) -> usize
+        ensures { result ≡ end_of_block chain height self.now.ticks.items self.now.y }
+    {
+        y_of_tick(self.ticks.as_slice(), chain, height, self.y)
     }
+}
+
+// How far down the last tick of a chain and a height stands, or where there is none.
+fn y_of_tick(ticks: &[Tick], chain: u8, height: u64, otherwise: usize) -> usize
+    ensures { result ≡ end_of_block chain height ticks.now otherwise }
+{
+    match last_tick(ticks, chain, height) {
+        Some(tick) => tick.y,
+        None => otherwise,
+    }
+}
+
+// The last tick of a chain and a height.
+fn last_tick(ticks: &[Tick], chain: u8, height: u64) -> Option<Tick>
+    ensures { result ≡ find (is_tick chain height) (reverse ticks.now) }
+{
+    ticks
+        .iter()
+        .rev()
+        .copied()
+        .find(|tick| is_tick(tick, chain, height))
+}
+
+// Whether a tick is that of a chain and a height.
+fn is_tick(tick: &Tick, chain: u8, height: u64) -> bool
+    ensures { result ≡ is_tick chain height tick.now }
+{
+    tick.chain == chain && tick.height == height
 }

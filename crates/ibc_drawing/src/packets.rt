@@ -1,5 +1,8 @@
 //! The packets of a picture.
 
+ghost use Rattle.std.specs.Prelude.{◌≡◌, ◌%◌, ◌*◌, ◌++◌, ◌+◌, ◌<◌, ◌∷◌, [], OnOk};
+ghost use Rattle.ibc_drawing.specs.Packets.{sent_packet};
+
 use ibc_explain::Explanation;
 use std::alloc::AllocError;
 
@@ -43,7 +46,10 @@ impl<'e> PacketKey<'e> {
     }
 
     /// The number of the packet's colour.
-    pub fn colour(&self) -> usize {
+    pub fn colour(&self) -> usize
+        ensures one { result < COLOURS }
+        ensures value { result ≡ (self.now.chain * 3 + self.now.sequence % COLOURS) % COLOURS }
+    {
         let first = usize::from(self.chain) * 3;
         let behind = (self.sequence % COLOURS as u64) as usize;
         (first + behind) % COLOURS
@@ -62,7 +68,9 @@ impl<'e> DrawnPackets<'e> {
     }
 
     /// A packet is sent.
-    pub fn send(&mut self, key: PacketKey<'e>, y: usize) -> Result<(), AllocError> {
+    pub fn send(&mut self, key: PacketKey<'e>, y: usize) -> Result<(), AllocError>
+        ensures { OnOk result (self.new.met.items ≡ self.old.met.items ++ sent_packet key.entry y ∷ []) }
+    {
         self.met.push(DrawnPacket {
             key,
             sent: y,

@@ -8,8 +8,8 @@ use Rattle.ibc_machine.specs.declared.reply.Reply.{Reply}
 use Rattle.ibc_machine.specs.declared.reply.Reply.TheVariants as reply
 use Rattle.ibc_machine.specs.ledger.Ledgers.{chain_of}
 use Rattle.ibc_ledger_lock.specs.ReceiptsAndReadings.{IsBehind, IsReceiptOf, ReceiptModel}
-use Rattle.ibc_script_worlds.specs.KeptReceipts.{AreKept}
-use Rattle.ibc_script_worlds.proofs.Receipts.{in_order}
+use Rattle.ibc_script_races.specs.KeptReceipts.{AreKept}
+use Rattle.ibc_script_races.proofs.Receipts.{in_order}
 use Rattle.ibc_race_counts.specs.AnsweredReceipts.{AreAnsweredReceipts, IsAnsweredReceipt}
 use Rattle.ibc_race_counts.specs.CountedReceipts.{IsThere}
 

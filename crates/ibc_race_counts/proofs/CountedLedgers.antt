@@ -13,10 +13,10 @@ use Rattle.ibc_world_core.specs.declared.holdings.Audit.{Audit}
 use Rattle.ibc_world_core.specs.EveryAudit.{AreLawful}
 use Rattle.ibc_race.specs.SharedWorlds.{IsAuditOf, numbers_of}
 use Rattle.ibc_script.specs.declared.script.Step.{Step}
-use Rattle.ibc_script_worlds.specs.KeptReceipts.{AreKept, IsKept, told_by}
-use Rattle.ibc_script_worlds.specs.Racing.{AreTaken, HasLedger, StandInOrder}
-use Rattle.ibc_script_worlds.proofs.Raced.{has_ledger}
-use Rattle.ibc_script_worlds.proofs.Standing.{stand_there}
+use Rattle.ibc_script_races.specs.KeptReceipts.{AreKept, IsKept, told_by}
+use Rattle.ibc_script_races.specs.Racing.{AreTaken, HasLedger, StandInOrder}
+use Rattle.ibc_script_races.proofs.Raced.{has_ledger}
+use Rattle.ibc_script_races.proofs.Standing.{stand_there}
 use Rattle.ibc_race_counts.specs.CountedRaces.{CountsWhatStands, IsCountedRaceOf, StandIn}
 use Rattle.ibc_race_counts.specs.CountedReceipts.{AreCountsOf, IsCountedOn}
 use Rattle.ibc_race_counts.specs.declared.counting.ReceiptCounts.{ReceiptCounts}

@@ -5,7 +5,7 @@ use Rattle.ibc_ids.specs.declared.refusal.Refusal.TheVariants.{NoMemory}
 use Rattle.ibc_machine.specs.declared.reply.Reply.TheVariants as reply
 use Rattle.ibc_machine.specs.ledger.Ledgers.{chain_of}
 use Rattle.ibc_ledger_lock.specs.ReceiptsAndReadings.{ReceiptModel}
-use Rattle.ibc_script_worlds.specs.KeptReceipts.{AreInOrder}
+use Rattle.ibc_script_races.specs.KeptReceipts.{AreInOrder}
 
 -- the receipt is of its event's chain, and memory didn't run out
 pub record IsAnsweredReceipt (told : ReceiptModel) : Type 0 where

@@ -7,8 +7,8 @@ use Rattle.ibc_ledger.specs.LedgerModel.{LedgerModel}
 use Rattle.ibc_ledger.specs.SentPackets.{happened_on}
 use Rattle.ibc_ledger_lock.specs.ReceiptsAndReadings.{ReceiptModel}
 use Rattle.ibc_script.specs.declared.script.Step.{Step}
-use Rattle.ibc_script_worlds.specs.KeptReceipts.{told_by}
-use Rattle.ibc_script_worlds.specs.Racing.{AreTaken, HasLedger, StandInOrder}
+use Rattle.ibc_script_races.specs.KeptReceipts.{told_by}
+use Rattle.ibc_script_races.specs.Racing.{AreTaken, HasLedger, StandInOrder}
 use Rattle.ibc_world_core.specs.EveryAudit.{AreLawful}
 use Rattle.ibc_race_counts.specs.CountedReceipts.{AreCountsOf}
 use Rattle.ibc_race_counts.specs.declared.counting.ReceiptCounts.{ReceiptCounts}

@@ -5,7 +5,7 @@ use Rattle.ibc_ids.specs.Refusals.{number_of}
 use Rattle.ibc_machine.specs.declared.reply.Reply.{Reply}
 use Rattle.ibc_machine.specs.declared.reply.Reply.TheVariants as reply
 use Rattle.ibc_ledger_lock.specs.ReceiptsAndReadings.{ReceiptModel}
-use Rattle.ibc_script_worlds.specs.KeptReceipts.{AreKept}
+use Rattle.ibc_script_races.specs.KeptReceipts.{AreKept}
 use Rattle.ibc_race_counts.specs.declared.counting.ReceiptCounts.{ReceiptCounts}
 
 abbrev pub is_accepted : Reply → Bool

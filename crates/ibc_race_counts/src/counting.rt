@@ -7,7 +7,7 @@ ghost use Rattle.ibc_race_counts.specs.CountedReceipts.{AreCountsOf, IsCountedOn
 use crate::RelayerLog;
 use ibc_ledger_lock::{Chain, Receipt, WorldBrand};
 use ibc_machine::Reply;
-use ibc_script_worlds::chain_at;
+use ibc_script_races::chain_at;
 use std::alloc::{AllocError, Global};
 
 /// Refusals have numbers below this one.

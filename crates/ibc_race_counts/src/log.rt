@@ -3,14 +3,14 @@
 ghost use Rattle.std.specs.Prelude.{◌≡◌, [], IfOk, IsOkUnless, OnErr, map};
 ghost use Rattle.ibc_ids.specs.declared.refusal.Refusal.TheVariants.{NoMemory};
 ghost use Rattle.ibc_machine.specs.ledger.Ledgers.{chain_of};
-ghost use Rattle.ibc_script_worlds.specs.KeptReceipts.{told_by};
+ghost use Rattle.ibc_script_races.specs.KeptReceipts.{told_by};
 ghost use Rattle.ibc_race_counts.specs.AnsweredReceipts.{AreAnsweredReceipts};
-ghost use Rattle.ibc_script_worlds.specs.Racing.{IsAsked};
+ghost use Rattle.ibc_script_races.specs.Racing.{IsAsked};
 
 use ibc_ids::Refusal;
 use ibc_ledger_lock::{Chain, Receipt, WorldBrand};
 use ibc_machine::{Event, Reply};
-use ibc_script_worlds::{asked, keep, last_of};
+use ibc_script_races::{asked, keep, last_of};
 use std::alloc::Global;
 use std::marker::Model;
 use std::sync::Wait;

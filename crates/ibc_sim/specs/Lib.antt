@@ -1,2 +1,5 @@
-pub mod Draws
+pub mod RacedLedgers
+pub mod ReadScripts
+pub mod ShortScripts
 pub mod Shrinking
+pub mod Simulations

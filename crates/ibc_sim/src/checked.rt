@@ -3,11 +3,11 @@
 ghost use Rattle.std.specs.Prelude.{◌≡◌};
 ghost use Rattle.ibc_script_worlds.specs.WorldChains.{world_chains};
 
-use crate::counts::{chain_of, tag_of};
-use crate::run_notes::RunNotes;
 use ibc_ids::{Bytes, ChannelId, Key, PortId, Refusal};
 use ibc_machine::{Event, Reply};
 use ibc_merkle::Proof;
+use ibc_random_scripts::RunSoFar;
+use ibc_run_notes::{RunNotes, chain_of, tag_of};
 use ibc_script_cli::{Chains, CommittedBlock};
 use ibc_script_worlds::ScriptWorld;
 use ibc_wire::{Message, Packet};
@@ -34,6 +34,16 @@ impl Checked {
         ensures { result ≡ chains }
     {
         Checked { chains, notes }
+    }
+
+    /// The world and the notes, by which the next steps are made.
+    pub fn so_far(&self) -> RunSoFar<'_>
+        ensures { result.world.now ≡ self.now }
+    {
+        RunSoFar {
+            world: self.chains.world(),
+            notes: &self.notes,
+        }
     }
 }
 

@@ -1,8 +1,11 @@
 //! A script that breaks a law.
 
-use crate::script_text::script_text;
+ghost use Rattle.std.specs.Prelude.{◌≡◌, IfOk, string_bytes, vec_len};
+ghost use Rattle.ibc_sim.specs.ShortScripts.{IsShortened, whole_text};
+
 use crate::shrinking::{Broken, all_kept, kept_count, shrunk};
 use ibc_law_checks::Finding;
+use ibc_random_scripts::script_text;
 use ibc_script::Fault;
 use std::alloc::Global;
 
@@ -33,7 +36,13 @@ impl FailedScript {
         steps: Vec<String>,
         finding: Finding,
         is_raced: bool,
-    ) -> FailedScript {
+    ) -> FailedScript
+        ensures seed { result.seed ≡ seed }
+        ensures head { result.head ≡ head }
+        ensures steps { result.steps ≡ steps }
+        ensures finding { result.finding ≡ finding }
+        ensures is_raced { result.is_raced ≡ is_raced }
+    {
         FailedScript {
             alloc,
             seed,
@@ -45,26 +54,28 @@ impl FailedScript {
     }
 
     /// How many steps it has.
-    pub fn step_count(&self) -> usize {
+    pub fn step_count(&self) -> usize
+        ensures { result ≡ vec_len self.now.steps }
+    {
         self.steps.len()
     }
 
     /// The script with all of its steps. Fault: `NoMemory`.
-    pub fn whole(&self) -> Result<ShortScript, Fault> {
-        let steps = self.steps.len();
-        let kept = all_kept(self.alloc, steps)?;
-        let text = script_text(
-            self.alloc,
-            self.head.as_str(),
-            self.steps.as_slice(),
-            kept.as_slice(),
-        );
-        drop(kept);
-        Ok(ShortScript { text: text?, steps })
+    pub fn whole(&self) -> Result<ShortScript, Fault>
+        ensures text { IfOk result (λ short. string_bytes short.text ≡ whole_text self.now) }
+        ensures steps { IfOk result (λ short. short.steps ≡ vec_len self.now.steps) }
+    {
+        let steps = self.steps.as_slice();
+        let count = self.steps.len();
+        let kept = all_kept(self.alloc, count)?;
+        let text = script_text(self.alloc, self.head.as_str(), steps, kept.as_slice())?;
+        Ok(ShortScript { text, steps: count })
     }
 
     /// The script with those of its steps that suffice. Fault: `NoMemory`.
-    pub fn shorter(&self) -> Result<ShortScript, Fault> {
+    pub fn shorter(&self) -> Result<ShortScript, Fault>
+        ensures { IfOk result (IsShortened self.now) }
+    {
         let broken = Broken {
             alloc: self.alloc,
             head: self.head.as_str(),
@@ -73,14 +84,15 @@ impl FailedScript {
         };
         let all = all_kept(self.alloc, self.steps.len())?;
         let kept = shrunk(self.alloc, &broken, all)?;
-        let steps = kept_count(kept.as_slice());
-        let text = script_text(
-            self.alloc,
-            self.head.as_str(),
-            self.steps.as_slice(),
-            kept.as_slice(),
-        );
-        drop(kept);
-        Ok(ShortScript { text: text?, steps })
+        self.with_kept(kept.as_slice())
+    }
+
+    // The script with those of its steps that are kept. Fault: `NoMemory`.
+    fn with_kept(&self, kept: &[bool]) -> Result<ShortScript, Fault>
+        ensures { IfOk result (IsShortened self.now) }
+    {
+        let steps = kept_count(kept);
+        let text = script_text(self.alloc, self.head.as_str(), self.steps.as_slice(), kept)?;
+        Ok(ShortScript { text, steps })
     }
 }

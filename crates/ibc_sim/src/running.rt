@@ -1,8 +1,13 @@
 //! Scripts are run on chains that are looked at.
 
+ghost use Rattle.std.specs.Prelude.{IfOk, OnOk};
+ghost use Rattle.ibc_machine.specs.chain.Genesis.{genesis_state};
+ghost use Rattle.ibc_script_worlds.specs.WorldChains.{IsNewWorld};
+ghost use Rattle.ibc_sim.specs.ReadScripts.{ReadsAsScript};
+
 use crate::checked::Checked;
-use crate::run_notes::RunNotes;
 use ibc_law_checks::Finding;
+use ibc_run_notes::RunNotes;
 use ibc_script::{Fault, Script, Step, read_script};
 use ibc_script_cli::{Runner, Worlds};
 use ibc_script_worlds::{ScriptWorld, WorldFactory};
@@ -10,10 +15,15 @@ use std::alloc::Global;
 use std::io;
 
 /// The chains with which a script begins. Faults: `BadScript` where no world begins so; `NoMemory`.
-pub fn begin(alloc: Global, script: &Script) -> Result<Checked, Fault> {
+pub fn begin(alloc: Global, script: &Script) -> Result<Checked, Fault>
+    ensures { IfOk result (IsNewWorld (genesis_state script.now.genesis)) }
+{
     let notes = RunNotes::new(alloc, &script.genesis)?;
     match WorldFactory::new(alloc).begin(&script.genesis) {
-        Ok(world) => Ok(Checked::new(world, notes)),
+        Ok(world) => {
+            let checked = Checked::new(world, notes);
+            Ok(checked)
+        }
         Err(refusal) => {
             drop(notes);
             Err(Fault::of_refusal(refusal))
@@ -37,7 +47,9 @@ pub fn take_steps(alloc: Global, chains: &mut Checked, steps: Vec<Step>) -> Resu
 
 /// What is found where a script is run, looked at after each event and once more at the end; none where no law is broken.
 /// Faults: `BadScript`, `NoMemory`.
-pub fn replay(alloc: Global, text: &[u8]) -> Result<Option<Finding>, Fault> {
+pub fn replay(alloc: Global, text: &[u8]) -> Result<Option<Finding>, Fault>
+    ensures { OnOk result (ReadsAsScript text.now) }
+{
     let script = read_script(alloc, text)?;
     let mut chains = begin(alloc, &script)?;
     let Script {

@@ -1,11 +1,13 @@
 //! A script that breaks a law is made shorter, while it still does.
 
-ghost use Rattle.std.specs.Prelude.{◌≡◌, ◌<◌, IfOk, IsTrue, List, Bool, vec_len, ⊤};
+ghost use Rattle.std.specs.Prelude.{◌≡◌, ◌<◌, IfOk, IsTrue, List, Bool, count_by, map, replicate, string_bytes, true, vec_len, ⊤};
+ghost use Rattle.ibc_sim.specs.ReadScripts.{ReadsAsScript};
+ghost use Rattle.ibc_random_scripts.specs.ScriptTexts.{kept_steps, script_of};
 ghost use Rattle.ibc_sim.specs.Shrinking.{KeepsNoMore, StillDo};
 
 use crate::running::replay;
-use crate::script_text::script_text;
 use ibc_law_checks::BrokenLaw;
+use ibc_random_scripts::script_text;
 use ibc_script::Fault;
 use std::alloc::{AllocError, Global};
 
@@ -32,11 +34,13 @@ pub struct Broken<'s> {
 }
 
 impl Breaks for Broken<'_> {
+    // Those that are kept are a script with the same beginning.
+    ghost does = { λ broken kept. ReadsAsScript (script_of broken.head.now (kept_steps kept (map string_bytes broken.steps.now))) };
+
     fn still_breaks(&self, kept: &[bool]) -> Result<bool, Fault> {
         let text = script_text(self.alloc, self.head, self.steps, kept)?;
-        let found = replay(self.alloc, text.as_bytes());
-        drop(text);
-        match found? {
+        let found = replay(self.alloc, text.as_bytes())?;
+        match found {
             Some(found) => {
                 let is_same = found.law == self.law;
                 drop(found);
@@ -56,7 +60,8 @@ struct StepRange {
 
 /// Whether each step is kept, where all are. Error: no memory.
 pub fn all_kept(alloc: Global, count: usize) -> Result<Vec<bool>, AllocError>
-    ensures { IfOk result (λ kept. vec_len kept ≡ count) }
+    ensures as_many { IfOk result (λ kept. vec_len kept ≡ count) }
+    ensures all { IfOk result (λ kept. kept.items ≡ replicate count true) }
 {
     let kept = vec![in alloc; true; count]?;
     Ok(kept)
@@ -172,7 +177,9 @@ fn has_kept(kept: &[bool], part: StepRange) -> bool {
 }
 
 /// How many steps are kept.
-pub fn kept_count(kept: &[bool]) -> usize {
+pub fn kept_count(kept: &[bool]) -> usize
+    ensures { result ≡ count_by (λ is_kept. is_kept) kept.now }
+{
     kept.iter().filter(|is_kept| **is_kept).count()
 }
 

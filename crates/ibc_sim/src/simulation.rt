@@ -1,19 +1,17 @@
 //! Many random scripts, one after another.
 
-ghost use Rattle.std.specs.Prelude.{◌≤◌};
+ghost use Rattle.std.specs.Prelude.{◌≡◌, ◌+◌, ◌-◌, ◌^◌, ◌≤◌, ◌↔◌, IfOk, IfSome, IsTrue, MatchOption, None, OnOk, Some, false, min, true, vec_len};
+ghost use Rattle.ibc_sim.specs.Simulations.{next_seed};
 
 use crate::checked::Checked;
-use crate::counts::AnswerCounts;
-use crate::draws::Draws;
 use crate::failed_script::FailedScript;
 use crate::judging::race_and_judge;
-use crate::maker::Maker;
 use crate::running::{begin, finding_of};
-use crate::script_text::{ScriptStart, empty_head, head, script_text};
 use crate::shrinking::all_kept;
-use crate::weaving::with_relays;
 use crate::writer::Writer;
 use ibc_law_checks::Finding;
+use ibc_random_scripts::{Draws, Maker, ScriptStart, empty_head, head, script_text, with_relays};
+use ibc_run_notes::AnswerCounts;
 use ibc_script::{Fault, read_script};
 use std::alloc::Global;
 use std::sync::Wait;
@@ -52,7 +50,11 @@ struct WrittenRun {
 
 impl Simulation {
     /// A simulation in which nothing has been done yet. Fault: `NoMemory`.
-    pub fn new(alloc: Global, request: SimulationRequest) -> Result<Simulation, Fault> {
+    pub fn new(alloc: Global, request: SimulationRequest) -> Result<Simulation, Fault>
+        ensures request { IfOk result (λ begun. begun.request ≡ request) }
+        ensures scripts { IfOk result (λ begun. begun.scripts ≡ 0) }
+        ensures steps { IfOk result (λ begun. begun.steps ≡ 0) }
+    {
         let counts = AnswerCounts::new(alloc)?;
         Ok(Simulation {
             alloc,
@@ -64,13 +66,20 @@ impl Simulation {
     }
 
     /// Whether all steps are done.
-    pub fn is_done(&self) -> bool {
+    pub fn is_done(&self) -> bool
+        ensures { IsTrue result ↔ (self.now.request.steps ≤ self.now.steps) }
+    {
         self.steps >= self.request.steps
     }
 
     /// Runs the next script. The result is the script, where it breaks a law. Faults: `NoMemory`; `BadScript` where a window is
     /// asked for that no chain has.
-    pub fn run_next(&mut self) -> Result<Option<FailedScript>, Fault> {
+    pub fn run_next(&mut self) -> Result<Option<FailedScript>, Fault>
+        ensures seed { IfOk result (λ failed. IfSome failed (λ script. script.seed ≡ next_seed self.old)) }
+        ensures raced { IfOk result (λ failed. IfSome failed (λ script. script.is_raced ≡ false)) }
+        ensures scripts { OnOk result (self.new.scripts ≡ min (self.old.scripts + 1) (2 ^ 64 - 1)) }
+        ensures request { self.new.request ≡ self.old.request }
+    {
         let (seed, run) = self.next_run()?;
         Ok(failed(self.alloc, seed, run))
     }
@@ -84,6 +93,9 @@ impl Simulation {
         relayers: u8,
     ) -> Result<Option<FailedScript>, Fault>
         requires { 1 ≤ relayers × relayers ≤ 8 }
+        ensures seed { IfOk result (λ failed. IfSome failed (λ script. script.seed ≡ next_seed self.old)) }
+        ensures scripts { OnOk result (self.new.scripts ≡ min (self.old.scripts + 1) (2 ^ 64 - 1)) }
+        ensures request { self.new.request ≡ self.old.request }
     {
         let (seed, run) = self.next_run()?;
         if run.found.is_some() {
@@ -108,7 +120,13 @@ impl Simulation {
     }
 
     // Runs the next script, and counts it. The result is its seed, and the run.
-    fn next_run(&mut self) -> Result<(u64, WrittenRun), Fault> {
+    fn next_run(&mut self) -> Result<(u64, WrittenRun), Fault>
+        ensures seed { IfOk result (λ ran. ran.0 ≡ next_seed self.old) }
+        ensures raced { IfOk result (λ ran. ran.1.is_raced ≡ false) }
+        ensures scripts { OnOk result (self.new.scripts ≡ min (self.old.scripts + 1) (2 ^ 64 - 1)) }
+        ensures steps { IfOk result (λ ran. self.new.steps ≡ min (self.old.steps + vec_len ran.1.steps) (2 ^ 64 - 1)) }
+        ensures request { self.new.request ≡ self.old.request }
+    {
         let seed = self.request.seed.wrapping_add(self.scripts);
         let left = self.request.steps.saturating_sub(self.steps);
         let run = self.run_script(seed, left.min(STEPS_OF_SCRIPT))?;
@@ -118,7 +136,12 @@ impl Simulation {
     }
 
     // Runs a random script of at most so many steps.
-    fn run_script(&mut self, seed: u64, most: u64) -> Result<WrittenRun, Fault> {
+    fn run_script(&mut self, seed: u64, most: u64) -> Result<WrittenRun, Fault>
+        ensures raced { IfOk result (λ run. run.is_raced ≡ false) }
+        ensures scripts { self.new.scripts ≡ self.old.scripts }
+        ensures steps { self.new.steps ≡ self.old.steps }
+        ensures request { self.new.request ≡ self.old.request }
+    {
         let mut draws = Draws::new(seed);
         let beginning = self.beginning(&mut draws);
         let head = head(self.alloc, beginning, &mut draws)?;
@@ -161,7 +184,11 @@ impl Simulation {
         chains: u8,
         seed: u64,
         most: u64,
-    ) -> Result<(Vec<String>, Option<Finding>), Fault> {
+    ) -> Result<(Vec<String>, Option<Finding>), Fault>
+        ensures scripts { self.new.scripts ≡ self.old.scripts }
+        ensures steps { self.new.steps ≡ self.old.steps }
+        ensures request { self.new.request ≡ self.old.request }
+    {
         let front = empty_head(self.alloc, chains)?;
         let maker = Maker::new(self.alloc, chains, seed);
         let mut writer = Writer::new(self.alloc, maker, front);
@@ -182,7 +209,11 @@ impl Simulation {
         head: &str,
         writer: &mut Writer,
         most: u64,
-    ) -> Result<Option<Finding>, Fault> {
+    ) -> Result<Option<Finding>, Fault>
+        ensures scripts { self.new.scripts ≡ self.old.scripts }
+        ensures steps { self.new.steps ≡ self.old.steps }
+        ensures request { self.new.request ≡ self.old.request }
+    {
         let mut chains = begin_with(self.alloc, head)?;
         match writer.go_on(&mut chains, most) {
             Ok(()) => {
@@ -207,6 +238,8 @@ fn raced<R: Threads + Wait + Sync>(
     steps: Vec<String>,
 ) -> Result<Option<FailedScript>, Fault>
     requires { 1 ≤ relayers × relayers ≤ 8 }
+    ensures seed { IfOk result (λ failed. IfSome failed (λ script. script.seed ≡ seed)) }
+    ensures raced { IfOk result (λ failed. IfSome failed (λ script. script.is_raced ≡ true)) }
 {
     let found = race_steps(rt, alloc, relayers, head.as_str(), steps.as_slice());
     match found {
@@ -247,7 +280,11 @@ fn race_steps<R: Threads + Wait + Sync>(
 }
 
 // A script that was run, where something was found.
-fn failed(alloc: Global, seed: u64, run: WrittenRun) -> Option<FailedScript> {
+fn failed(alloc: Global, seed: u64, run: WrittenRun) -> Option<FailedScript>
+    ensures seed { IfSome result (λ script. script.seed ≡ seed) }
+    ensures finding { MatchOption result (run.found ≡ None) (λ script. run.found ≡ Some script.finding) }
+    ensures raced { IfSome result (λ script. script.is_raced ≡ run.is_raced) }
+{
     let WrittenRun {
         head,
         steps,

@@ -1,10 +1,9 @@
 //! The steps of a script are written, and taken as they are written.
 
 use crate::checked::Checked;
-use crate::maker::{FIRST_STEPS, Maker};
 use crate::running::take_steps;
-use crate::script_text::script_text;
 use crate::shrinking::all_kept;
+use ibc_random_scripts::{FIRST_STEPS, Maker, script_text};
 use ibc_script::{Fault, Script, read_script};
 use std::alloc::Global;
 
@@ -59,9 +58,10 @@ impl Writer {
     fn written(&mut self, chains: &Checked, number: u64) -> Result<Vec<String>, Fault> {
         let mut next = Vec::new(self.alloc);
         let made = if number < FIRST_STEPS {
-            self.maker.begin(chains, number, &mut next)
+            self.maker.begin(&chains.so_far(), number, &mut next)
         } else {
-            self.maker.next(chains, self.steps.as_slice(), &mut next)
+            self.maker
+                .next(&chains.so_far(), self.steps.as_slice(), &mut next)
         };
         match made {
             Ok(()) => Ok(next),

@@ -4,10 +4,9 @@ ghost use Rattle.std.specs.Prelude.{◌≡◌, Some, slice_get, true};
 
 use ibc_law_checks::BrokenLaw;
 use ibc_ledger::Ledger;
+use ibc_run_notes::AnswerCounts;
 use ibc_script::{Fault, Script, read_script};
-use ibc_sim::{
-    AnswerCounts, Breaks, Simulation, SimulationRequest, all_kept, judge, race, replay, shrunk,
-};
+use ibc_sim::{Breaks, Simulation, SimulationRequest, all_kept, judge, race, replay, shrunk};
 use std::alloc::Global;
 use std::process::Abort;
 

@@ -7,7 +7,8 @@ use crate::scripts::{
 use crate::trial::{Calls, Deed, Trial};
 use ibc_script::Fault;
 use ibc_script_cli::drive;
-use ibc_script_worlds::{RaceRunner, WorldFactory};
+use ibc_script_races::RaceRunner;
+use ibc_script_worlds::WorldFactory;
 use std::alloc::Global;
 use std::cell::Cell;
 use std::sync::Wait;

@@ -3,10 +3,9 @@
 use crate::{FAILED, FOUND, GOOD, RelayerNumber, bytes_of, relayers_in};
 use clap::{Arg, ArgAction, ArgMatches, Command};
 use ibc_law_checks::Finding;
+use ibc_run_notes::AnswerCounts;
 use ibc_script::Fault;
-use ibc_sim::{
-    AnswerCounts, FailedScript, ShortScript, Simulation, SimulationRequest, race_and_judge, replay,
-};
+use ibc_sim::{FailedScript, ShortScript, Simulation, SimulationRequest, race_and_judge, replay};
 use ibc_wire::MessageKind;
 use std::alloc::{AllocError, Global};
 use std::fs::Files;

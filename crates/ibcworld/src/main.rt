@@ -2,7 +2,7 @@
 #![tactic(auto)]
 
 use ibc_script::Fault;
-use ibc_script_worlds::drive_on_ledgers;
+use ibc_script_races::drive_on_ledgers;
 use std::env::Env;
 use std::io::BufWriter;
 use std::process::ExitCode;

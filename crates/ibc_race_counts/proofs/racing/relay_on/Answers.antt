@@ -1,6 +1,6 @@
 use denote.Exit.{yes}
 use denote.Param.Send.{arg_sync, param_sync}
-use Rattle.ibc_script_worlds.proofs.Crossing.{chain_sync}
+use Rattle.ibc_script_races.proofs.Crossing.{chain_sync}
 use Rattle.ibc_race_counts.proofs.racing.relay_on.Goals as goal
 
 pub relay_all_noting-requires-sync-X : goal.relay_all_noting-requires-sync-X

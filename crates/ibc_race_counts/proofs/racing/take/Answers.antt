@@ -1,5 +1,5 @@
 use Rattle.ibc_script_cli.specs.Runs.{asking_acts}
-use Rattle.ibc_script_worlds.proofs.Raced.{unseen}
+use Rattle.ibc_script_races.proofs.Raced.{unseen}
 use Rattle.ibc_race_counts.proofs.racing.take.Goals as goal
 
 pub returns-in-Ok-clause-taken : goal.returns-in-Ok-clause-taken

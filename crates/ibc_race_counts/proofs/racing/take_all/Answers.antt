@@ -1,6 +1,6 @@
 use Rattle.std.proofs.Common.{map}
-use Rattle.ibc_script_worlds.specs.KeptReceipts.{told_by}
-use Rattle.ibc_script_worlds.proofs.Raced.{all_taken}
+use Rattle.ibc_script_races.specs.KeptReceipts.{told_by}
+use Rattle.ibc_script_races.proofs.Raced.{all_taken}
 use Rattle.ibc_race_counts.proofs.racing.take_all.Goals as goal
 
 pub returns-in-Ok-clause-taken : goal.returns-in-Ok-clause-taken

@@ -5,7 +5,7 @@ use Rattle.std.specs.Vec.Iter.{into_iter_items}
 use Rattle.ibc_script.specs.declared.script.Step.{Step}
 use Rattle.ibc_script_cli.specs.Runs.{Reached, asking_acts}
 use Rattle.ibc_script_cli.proofs.Reaching.{goes_on}
-use Rattle.ibc_script_worlds.specs.Racing.{raced_chains}
+use Rattle.ibc_script_races.specs.Racing.{raced_chains}
 use Rattle.ibc_race_counts.proofs.racing.take_each.Goals as goal
 
 pub loop-step-preserved : goal.loop-step-preserved

@@ -2,7 +2,7 @@ use Rattle.std.proofs.Common.{◌≡◌, length, None}
 use Rattle.std.specs.List.{flat_map}
 use Rattle.std.specs.Vec.Iter.{into_iter_items, into_iter_len}
 use Rattle.ibc_script_cli.specs.Runs.{Reached, asking_acts}
-use Rattle.ibc_script_worlds.specs.Racing.{raced_chains}
+use Rattle.ibc_script_races.specs.Racing.{raced_chains}
 use Rattle.ibc_race_counts.proofs.racing.take_each.Given as goal
 
 abbrev pub invariant-loop-step : goal.invariant-loop-step

@@ -1,6 +1,6 @@
 use denote.Exit.{yes}
 use denote.Param.Send.{arg_sync, param_sync}
-use Rattle.ibc_script_worlds.proofs.Crossing.{chain_sync}
+use Rattle.ibc_script_races.proofs.Crossing.{chain_sync}
 use Rattle.ibc_thread_tests.proofs.trial.try_gates.Goals as goal
 
 pub is_done_by_gates-requires-sync-G : goal.is_done_by_gates-requires-sync-G

@@ -2,9 +2,9 @@
 use Rattle.std.proofs.Common.{◌≡◌, ◌∙◌, IfOk, List, map, subst, sym}
 use Rattle.std.specs.List.{All}
 use Rattle.ibc_ledger_lock.specs.ReceiptsAndReadings.{IsBehind}
-use Rattle.ibc_script_worlds.specs.KeptReceipts.{told_by}
-use Rattle.ibc_script_worlds.specs.Racing.{IsAsked}
-use Rattle.ibc_script_worlds.proofs.Receipts.{behind_all, kept, mapped_some}
+use Rattle.ibc_script_races.specs.KeptReceipts.{told_by}
+use Rattle.ibc_script_races.specs.Racing.{IsAsked}
+use Rattle.ibc_script_races.proofs.Receipts.{behind_all, kept, mapped_some}
 use Rattle.ibc_race_counts.proofs.AnsweredLogs.{stay_answered}
 use Rattle.ibc_race_counts.proofs.log.RelayerLog.ask.Goals as goal
 

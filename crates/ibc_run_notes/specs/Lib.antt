@@ -1,0 +1,4 @@
+pub mod Counts
+pub mod Findings
+pub mod Flights
+pub mod KnownEnds

@@ -1,0 +1,4 @@
+pub mod Crossing
+pub mod Raced
+pub mod Receipts
+pub mod Standing

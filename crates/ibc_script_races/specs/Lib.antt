@@ -1,0 +1,2 @@
+pub mod KeptReceipts
+pub mod Racing

@@ -1,5 +1,0 @@
-use Rattle.ibc_script_worlds.proofs.Receipts.{AreOthers}
-use Rattle.ibc_script_worlds.proofs.sharing.last_of.Given as goal
-
-abbrev pub invariant-loop-behind : goal.invariant-loop-behind
-invariant-loop-behind g l = AreOthers l.fn.chain l.fn.receipts l.behind
