@@ -88,12 +88,21 @@ listed_holding ((account, denom), amount) = holding_text account denom amount
 abbrev pub balances_text : List ((Text × Text) × ℕ) → Text
 balances_text list = named_list (codes "balances") (joined (map listed_holding list))
 
+-- an entry's place, its chain, its kind and its place in a log
+abbrev pub place_text : ℕ → JournalItem → Text
+place_text place it =
+    codes "\"place\":" ++ (decimal place ++ (codes ",\"chain\":" ++ (decimal it.chain ++ (codes ",\"kind\":" ++ (decimal it.kind
+    ++ (codes ",\"at\":" ++ decimal it.log_place))))))
+
+-- such a text, with an event, an answer and a digest in hex
+abbrev pub bytes_text : Text → Text → Text → Text → Text
+bytes_text front event answer digest =
+    codes "{" ++ (front ++ (codes ",\"event\":\"" ++ (event ++ (codes "\",\"answer\":\"" ++ (answer
+    ++ (codes "\",\"digest\":\"" ++ (digest ++ codes "\"}")))))))
+
 -- an entry as the journal has it, at a place, with its event, its answer and its digest in hex
 abbrev pub kept_text : ℕ → JournalItem → Text → Text → Text → Text
-kept_text place it event answer digest =
-    codes "{\"place\":" ++ (decimal place ++ (codes ",\"chain\":" ++ (decimal it.chain ++ (codes ",\"kind\":" ++ (decimal it.kind
-    ++ (codes ",\"at\":" ++ (decimal it.log_place ++ (codes ",\"event\":\"" ++ (event ++ (codes "\",\"answer\":\"" ++ (answer
-    ++ (codes "\",\"digest\":\"" ++ (digest ++ codes "\"}")))))))))))))
+kept_text place it event answer digest = bytes_text (place_text place it) event answer digest
 
 abbrev pub item_text : ℕ → JournalItem → Text
 item_text place it = kept_text place it (encode_lower it.event) (encode_lower it.answer) (encode_lower it.digest)

@@ -5,7 +5,7 @@ ghost use Rattle.ibc_ids.specs.Paths.{account_text};
 ghost use Rattle.ibc_journal.specs.Entries.{item};
 ghost use Rattle.ibc_script_cli.specs.Balances.{holding_of};
 ghost use Rattle.ibc_node_lines.specs.Told.{joined, resumed_text};
-ghost use Rattle.ibc_node_lines.specs.OtherLines.{balances_text, both_text, digits_text, entries_text, fault_text, found_text, holding_text, item_text, kept_text, lawful_text, looked_text, mistaken_text, named_list, reading_text, refusal_line, row_text, totals_text, IsAnsweredText, IsDueText, IsUnansweredText, IsUnlawfulText};
+ghost use Rattle.ibc_node_lines.specs.OtherLines.{balances_text, both_text, bytes_text, digits_text, entries_text, fault_text, found_text, holding_text, item_text, kept_text, lawful_text, looked_text, mistaken_text, named_list, place_text, reading_text, refusal_line, row_text, totals_text, IsAnsweredText, IsDueText, IsUnansweredText, IsUnlawfulText};
 
 use crate::LineFault;
 use crate::lines::{joined, refused, reply_text};
@@ -260,10 +260,30 @@ fn kept_in(
 ) -> Result<String, AllocError>
     ensures { IfOk result (λ text. string_bytes text ≡ kept_text place (item entry.now) event.now answer.now digest.now) }
 {
+    let front = kept_at(alloc, place, entry)?;
+    with_bytes(alloc, front.as_str(), event, answer, digest)
+}
+
+// The place of an entry, its chain, its kind and its place in a log.
+fn kept_at(alloc: Global, place: u32, entry: &JournalEntry) -> Result<String, AllocError>
+    ensures { IfOk result (λ text. string_bytes text ≡ place_text place (item entry.now)) }
+{
     let chain = entry.chain;
     let kind = entry.kind;
     let at = entry.log_place;
+    format!(in alloc; "\"place\":{place},\"chain\":{chain},\"kind\":{kind},\"at\":{at}")
+}
+
+fn with_bytes(
+    alloc: Global,
+    front: &str,
+    event: &str,
+    answer: &str,
+    digest: &str,
+) -> Result<String, AllocError>
+    ensures { IfOk result (λ text. string_bytes text ≡ bytes_text front.now event.now answer.now digest.now) }
+{
     format!(in alloc;
-        "{{\"place\":{place},\"chain\":{chain},\"kind\":{kind},\"at\":{at},\"event\":\"{event}\",\"answer\":\"{answer}\",\"digest\":\"{digest}\"}}"
+        "{{{front},\"event\":\"{event}\",\"answer\":\"{answer}\",\"digest\":\"{digest}\"}}"
     )
 }

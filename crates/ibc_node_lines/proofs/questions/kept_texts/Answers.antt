@@ -1,5 +1,5 @@
 -- One entry after another is read.
-use Rattle.std.proofs.Common.{◌+◌, ◌∙◌, [], ◌∷◌, ◌++◌, add-zero, ap, arith, length, length-append, map, string_bytes, sym}
+use Rattle.std.proofs.Common.{◌+◌, ◌∙◌, [], ◌∷◌, ◌++◌, add-zero, ap, arith, length-append, map, string_bytes, sym}
 use Rattle.sqlite.specs.Held.{state}
 use Rattle.ibc_journal.specs.Entries.{item}
 use Rattle.ibc_node_lines.specs.OtherLines.{item_text}
