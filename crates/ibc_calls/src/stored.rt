@@ -1,9 +1,11 @@
 //! What a journal keeps of the entries of ledgers, and lists of such entries.
 
-ghost use Rattle.std.specs.Prelude.{◌≡◌, ◌<◌, ◌^◌, IfOk, IfErr, Some};
-ghost use Rattle.ibc_ids.specs.declared.refusal.Refusal.TheVariants.{BadMessage};
+ghost use Rattle.std.specs.Prelude.{◌≡◌, ◌⊎◌, ◌<◌, ◌^◌, IfOk, IfErr, IsErrOf, Some};
+ghost use Rattle.ibc_ids.specs.declared.refusal.Refusal.TheVariants.{BadMessage, NoMemory};
+ghost use Rattle.ibc_machine.specs.declared.entry.Entry.{Entry as AnEntry};
+ghost use Rattle.ibc_entry_codec.specs.Stored.{StoresEntry};
 ghost use Rattle.ibc_calls.specs.declared.answer.Refused.TheVariants.{Core};
-ghost use Rattle.ibc_calls.specs.StoredEntries.{AddsEntry, AreWritten, EntriesGoOn, EntryAdded, FindsEntry, IsRestored, IsStored, MakesEntries, TellsStored, WritesStoredEntry, both_answers};
+ghost use Rattle.ibc_calls.specs.StoredEntries.{AddsEntry, AreBytes, AreWritten, EntriesGoOn, EntryAdded, FindsEntry, IsStored, MakesEntries, TellsStored, WritesStoredEntry, both_answers, bytes_of};
 
 use crate::Refused;
 use crate::handles::{put_new, write_out};
@@ -232,19 +234,36 @@ fn entry_of(
 ) -> Result<Entry, Refused>
     ensures { FindsEntry (record { chain = chain; kind = kind; event = event.now; answer = answer.now }) result }
 {
+    let stored = kept_bytes(alloc, chain, kind, event, answer)?;
+    match restored(alloc, stored) {
+        Ok(entry) => Ok(entry),
+        Err(refused) => Err(refused),
+    }
+}
+
+// What a journal keeps, as one value. Refused: `Core(BadMessage)` exactly where a number is no byte; `Core(NoMemory)`.
+fn kept_bytes(
+    alloc: Global,
+    chain: u32,
+    kind: u32,
+    event: &[u8],
+    answer: &[u8],
+) -> Result<EntryBytes, Refused>
+    ensures ok { IfOk result (λ stored. stored ≡ bytes_of (record { chain = chain; kind = kind; event = event.now; answer = answer.now })) }
+    ensures numbers { IfOk result (λ stored. AreBytes chain kind) }
+    ensures none { IsErrOf result (Core BadMessage) → ¬ AreBytes chain kind }
+    ensures err { IfErr result (λ why. (why ≡ Core BadMessage) ⊎ (why ≡ Core NoMemory)) }
+{
     let chain = byte_of(chain)?;
     let kind = byte_of(kind)?;
     let event = copy_of(alloc, event)?;
     let answer = copy_of(alloc, answer)?;
-    restored(
-        alloc,
-        EntryBytes {
-            chain,
-            kind,
-            event,
-            answer,
-        },
-    )
+    Ok(EntryBytes {
+        chain,
+        kind,
+        event,
+        answer,
+    })
 }
 
 // The byte that a number is.
@@ -259,13 +278,17 @@ fn byte_of(number: u32) -> Result<u8, Refused>
     }
 }
 
+// The entry of which these bytes are kept.
 fn restored(alloc: Global, stored: EntryBytes) -> Result<Entry, Refused>
-    ensures { IsRestored stored result }
+    ensures ok { IfOk result (λ entry. StoresEntry entry stored) }
+    ensures none { IsErrOf result (Core BadMessage) → (entry : AnEntry) → ¬ StoresEntry entry stored }
+    ensures err { IfErr result (λ why. (why ≡ Core BadMessage) ⊎ (why ≡ Core NoMemory)) }
 {
     let found = restore(alloc, &stored);
     drop(stored);
     match found {
         Ok(entry) => Ok(entry),
-        Err(refusal) => Err(Refused::Core(refusal)),
+        Err(Refusal::BadMessage) => Err(Refused::Core(Refusal::BadMessage)),
+        Err(_) => Err(Refused::Core(Refusal::NoMemory)),
     }
 }
