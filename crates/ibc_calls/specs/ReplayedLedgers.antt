@@ -50,20 +50,23 @@ TellsDifference (why.At place due stored) old new answer =
 
 -- ---- the ledgers
 
--- the ledgers of a world of the genesis that kept just these entries, under the number of their world
-abbrev pub AreReplayed : GenesisState → List Entry → ℕ → HandleValue → Type 0
-AreReplayed genesis list number (held.Ledgers all) =
-    (all.number ≡ number)
-    × (world : WorldState) × IsReplay genesis list world × (ledgers_alone all.ledgers ≡ world.ledgers)
-AreReplayed genesis list number _ = ⊥
+-- the ledgers of a world, under its number
+abbrev pub AreOfWorld : WorldState → ℕ → HandleValue → Type 0
+AreOfWorld world number (held.Ledgers all) = (all.number ≡ number) × (ledgers_alone all.ledgers ≡ world.ledgers)
+AreOfWorld world number _ = ⊥
 
--- the ledgers are made, or the first entry that isn't as it is due is told, or memory ran out
+-- the ledgers of a world of the genesis that kept just these entries
+abbrev pub AreReplayed : GenesisState → List Entry → ℕ → HandleValue → Type 0
+AreReplayed genesis list number value = (world : WorldState) × IsReplay genesis list world × AreOfWorld world number value
+
+-- the ledgers are made; or memory ran out, or the first entry that isn't as it is due is told
 abbrev pub Replays : GenesisState → List Entry → ℕ → Option HandleValue → DueOutput → DueOutput → Answer → Type 0
 Replays genesis list number (Some value) old new answer =
     AreReplayed genesis list number value × (new ≡ old) × (answer ≡ Ok tt)
 Replays genesis list number None old new answer =
-    (difference : Difference) × (difference ≢ why.NoGenesis) × IsDifference genesis list difference
-    × TellsDifference difference old new answer
+    ((new ≡ old) × (answer ≡ Err (Core NoMemory)))
+    ⊎ ((difference : Difference) × (difference ≢ why.NoGenesis) × IsDifference genesis list difference
+    × TellsDifference difference old new answer)
 
 -- no world begins with a genesis that isn't allowed
 abbrev pub ReplaysIfAllowed : Bool → GenesisState → List Entry → ℕ → Option HandleValue → DueOutput → DueOutput → Answer → Type 0

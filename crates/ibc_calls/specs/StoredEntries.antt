@@ -80,12 +80,14 @@ pub record KeptEntry : Type 0 where
 abbrev pub bytes_of : KeptEntry → EntryBytes
 bytes_of kept = record { chain = kept.chain; kind = kept.kind; event = kept.event; answer = kept.answer }
 
-abbrev pub AreBytes : ℕ → ℕ → Type 0
-AreBytes chain kind = (chain < 2 ^ 8) × (kind < 2 ^ 8)
-
--- this is kept of the entry
+-- this is kept of the entry; its numbers are bytes
 abbrev pub IsKeptOf : KeptEntry → Entry → Type 0
-IsKeptOf kept given = AreBytes kept.chain kept.kind × StoresEntry given (bytes_of kept)
+IsKeptOf kept given = (kept.chain < 2 ^ 8) × (kept.kind < 2 ^ 8) × StoresEntry given (bytes_of kept)
+
+-- the entry of which these bytes are kept; or they are kept of none, or memory ran out
+abbrev pub IsRestored : EntryBytes → Result Entry Refused → Type 0
+IsRestored stored (Ok given) = StoresEntry given stored
+IsRestored stored (Err why) = ((why ≡ Core BadMessage) × ((given : Entry) → StoresEntry given stored → ⊥)) ⊎ (why ≡ Core NoMemory)
 
 -- the entry of which this is kept; or it is kept of none, or memory ran out
 abbrev pub FindsEntry : KeptEntry → Result Entry Refused → Type 0

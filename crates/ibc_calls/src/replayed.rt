@@ -5,7 +5,8 @@ ghost use Rattle.ibc_ids.specs.declared.refusal.Refusal.TheVariants.{NoMemory};
 ghost use Rattle.ibc_machine.specs.chain.Genesis.{genesis_state, is_allowed};
 ghost use Rattle.ibc_handle.specs.declared.handle_value.HandleValue.TheVariants as kind;
 ghost use Rattle.ibc_calls.specs.declared.answer.Refused.TheVariants.{Core, OtherKind};
-ghost use Rattle.ibc_calls.specs.ReplayedLedgers.{AreOfAnswer, HasNoEntries, MakesReplayed, ReplaysIfAllowed, ReplaysOf, ReplaysValue, TellsDifference};
+ghost use Rattle.ibc_calls.specs.Handles.{IsMade};
+ghost use Rattle.ibc_calls.specs.ReplayedLedgers.{AreOfAnswer, AreOfWorld, HasNoEntries, MakesReplayed, ReplaysIfAllowed, ReplaysOf, ReplaysValue, TellsDifference};
 
 use crate::Refused;
 use crate::handles::{put_new, write_out};
@@ -15,6 +16,7 @@ use ibc_ids::{Bytes, Refusal};
 use ibc_machine::{Entry, Genesis};
 use ibc_replay::{Answered, Difference, replay};
 use ibc_wire::encode;
+use ibc_world_core::World;
 use std::alloc::Global;
 use std::mem::replace;
 
@@ -143,12 +145,18 @@ fn replay_list(
     ensures { ReplaysIfAllowed (is_allowed (genesis_state genesis.now)) (genesis_state genesis.now) list.items number ledgers.new.value (record { place = place.old; bytes = due.old; size = size.old }) (record { place = place.new; bytes = due.new; size = size.new }) result }
 {
     match replay(alloc, genesis, list) {
-        Ok(world) => {
-            let all = WorldLedgers::of_world(world, number);
-            put_new(alloc, ledgers, HandleValue::Ledgers(all))
-        }
+        Ok(world) => put_world(alloc, world, number, ledgers),
         Err(difference) => tell_difference(alloc, difference, place, due, size),
     }
+}
+
+// Puts the ledgers of a world into a handle that holds nothing. Refused: `Core(NoMemory)`.
+fn put_world(alloc: Global, world: World, number: u64, ledgers: &mut Handle) -> Result<(), Refused>
+    requires { ledgers.old.value ≡ None }
+    ensures { IsMade (AreOfWorld world number) ledgers.new.value result }
+{
+    let all = WorldLedgers::of_world(world, number);
+    put_new(alloc, ledgers, HandleValue::Ledgers(all))
 }
 
 // Tells why no world is made again of entries.

@@ -5,7 +5,7 @@ ghost use Rattle.ibc_ids.specs.declared.refusal.Refusal.TheVariants.{BadMessage,
 ghost use Rattle.ibc_machine.specs.declared.entry.Entry.{Entry as AnEntry};
 ghost use Rattle.ibc_entry_codec.specs.Stored.{StoresEntry};
 ghost use Rattle.ibc_calls.specs.declared.answer.Refused.TheVariants.{Core};
-ghost use Rattle.ibc_calls.specs.StoredEntries.{AddsEntry, AreBytes, AreWritten, EntriesGoOn, EntryAdded, FindsEntry, IsStored, MakesEntries, TellsStored, WritesStoredEntry, both_answers, bytes_of};
+ghost use Rattle.ibc_calls.specs.StoredEntries.{AddsEntry, AreWritten, EntriesGoOn, EntryAdded, FindsEntry, IsRestored, IsStored, MakesEntries, TellsStored, WritesStoredEntry, both_answers};
 
 use crate::Refused;
 use crate::handles::{put_new, write_out};
@@ -234,36 +234,19 @@ fn entry_of(
 ) -> Result<Entry, Refused>
     ensures { FindsEntry (record { chain = chain; kind = kind; event = event.now; answer = answer.now }) result }
 {
-    let stored = kept_bytes(alloc, chain, kind, event, answer)?;
-    match restored(alloc, stored) {
-        Ok(entry) => Ok(entry),
-        Err(refused) => Err(refused),
-    }
-}
-
-// What a journal keeps, as one value. Refused: `Core(BadMessage)` exactly where a number is no byte; `Core(NoMemory)`.
-fn kept_bytes(
-    alloc: Global,
-    chain: u32,
-    kind: u32,
-    event: &[u8],
-    answer: &[u8],
-) -> Result<EntryBytes, Refused>
-    ensures ok { IfOk result (λ stored. stored ≡ bytes_of (record { chain = chain; kind = kind; event = event.now; answer = answer.now })) }
-    ensures numbers { IfOk result (λ stored. AreBytes chain kind) }
-    ensures none { IsErrOf result (Core BadMessage) → ¬ AreBytes chain kind }
-    ensures err { IfErr result (λ why. (why ≡ Core BadMessage) ⊎ (why ≡ Core NoMemory)) }
-{
     let chain = byte_of(chain)?;
     let kind = byte_of(kind)?;
     let event = copy_of(alloc, event)?;
     let answer = copy_of(alloc, answer)?;
-    Ok(EntryBytes {
-        chain,
-        kind,
-        event,
-        answer,
-    })
+    read_back(
+        alloc,
+        EntryBytes {
+            chain,
+            kind,
+            event,
+            answer,
+        },
+    )
 }
 
 // The byte that a number is.
@@ -275,6 +258,15 @@ fn byte_of(number: u32) -> Result<u8, Refused>
         Ok(number as u8)
     } else {
         Err(Refused::Core(Refusal::BadMessage))
+    }
+}
+
+fn read_back(alloc: Global, stored: EntryBytes) -> Result<Entry, Refused>
+    ensures { IsRestored stored result }
+{
+    match restored(alloc, stored) {
+        Ok(entry) => Ok(entry),
+        Err(refused) => Err(refused),
     }
 }
 
