@@ -152,7 +152,7 @@ static uint32_t said_by(ibcw_journal *journal, int code)
 
 static int run(sqlite3 *file, const char *sql) { return sqlite3_exec(file, sql, NULL, NULL, NULL); }
 
-/* What is closed leaves the log beside the file, so that a file which isn't taken stays as it was. */
+/* Whether the log is left beside the file, when it is closed, as it was. Else it is put into the file, and removed. */
 static void leave_log(sqlite3 *file, int is_left) { sqlite3_db_config(file, SQLITE_DBCONFIG_NO_CKPT_ON_CLOSE, is_left, (int *)NULL); }
 
 static void disconnect(ibcw_journal *journal)
@@ -168,10 +168,7 @@ static void disconnect(ibcw_journal *journal)
 static uint32_t connect_to(ibcw_journal *journal, const char *path)
 {
     int code = sqlite3_open_v2(path, &journal->file, SQLITE_OPEN_READWRITE | SQLITE_OPEN_NOMUTEX | SQLITE_OPEN_PRIVATECACHE, NULL);
-    if (code == SQLITE_OK)
-        leave_log(journal->file, 1);
-    else
-        disconnect(journal);
+    if (code != SQLITE_OK) disconnect(journal);
     return said_by(journal, code);
 }
 
@@ -182,19 +179,17 @@ static int64_t length_of(const char *path)
     return stat(path, &found) == 0 ? (int64_t)found.st_size : 0;
 }
 
-/* Whether a log stands beside a file that is empty. sqlite3 would take it for one that is done with, and remove it. */
-static int is_cut(sqlite3 *file)
-{
-    const char *path = sqlite3_db_filename(file, "main");
-    return length_of(path) == 0 && length_of(sqlite3_filename_wal(path)) > EMPTY_LOG;
-}
-
-/* Locks the file against all others, until it is closed. Each commit syncs the log, as the node's do. */
+/* Locks the file against all others, until it is closed. Each commit syncs the log, as the node's do. Where the file is empty (which a file of one byte is to sqlite3) beside its
+   log, sqlite3 would take that for one that is done with. A file that isn't taken stays as it was, and so does its log. */
 static uint32_t hold(ibcw_journal *journal)
 {
-    if (is_cut(journal->file)) return fail(journal, IBCW_JOURNAL_NONE);
+    const char *path = sqlite3_db_filename(journal->file, "main");
+    int64_t log = length_of(sqlite3_filename_wal(path));
+    if (log > EMPTY_LOG && length_of(path) <= 1) return fail(journal, IBCW_JOURNAL_NONE);
+    leave_log(journal->file, log > 0);
+    if (sqlite3_db_readonly(journal->file, "main") != 0) return said_by(journal, SQLITE_READONLY);
     return said_by(journal, run(journal->file, "PRAGMA locking_mode=EXCLUSIVE; PRAGMA synchronous=FULL; PRAGMA mmap_size=0; PRAGMA trusted_schema=OFF; "
-                                               "BEGIN EXCLUSIVE; COMMIT"));
+                                               "BEGIN EXCLUSIVE; ROLLBACK"));
 }
 
 /* Makes a file where there is none, and gives it a write-ahead log. It has no lock of its own yet: under one sqlite3 would leave a file FILE-journal behind. */
