@@ -50,7 +50,7 @@ typedef enum {
     IBCW_JOURNAL_FAILED = 220,        /* anything else, as an error of the disk */
     /* of calls */
     IBCW_JOURNAL_ENDED = 221,         /* a commit failed before */
-    IBCW_JOURNAL_WAITS = 222,         /* memory was refused once the ledger had its entry, which waits for ibcw_commit */
+    IBCW_JOURNAL_WAITS = 222,         /* the ledger has its entry, and memory was refused for putting it in: it waits for ibcw_commit */
     IBCW_JOURNAL_OLD_PLACE = 223,     /* the place of the log isn't above the last one that is kept */
     IBCW_JOURNAL_NO_ORDER = 224       /* in no order the entries have their answers: threads asked the ledgers at the same time */
 } ibcw_journal_fault_number;
@@ -107,9 +107,9 @@ IBCW_MUST_USE IBCW_NONNULL(1)
 uint32_t ibcw_commit(ibcw_journal *journal, uint32_t log_place);
 
 /* Applies a message to the ledger of a chain, as ibcw_apply, puts its entry in, and only then tells the reply. What waited is put in with it. The answer is the reply's
-   number, as there. IBCW_JOURNAL_ENDED and IBCW_UNKNOWN_CHAIN: then the ledger wasn't asked. IBCW_JOURNAL_WAITS: the ledger has the entry, and
-   ibcw_commit puts it in. All else of ibcw_commit, but for IBCW_NO_MEMORY, which is the ledger's. *told has the kind IBCW_TOLD_REFUSAL and the answer's number
-   where no reply is told, and *size is 0. */
+   number, as there. IBCW_JOURNAL_ENDED, and IBCW_NOTHING_THERE where there is no such chain: then no ledger was asked. What ibcw_commit answers, but that it is
+   IBCW_JOURNAL_WAITS in place of its numbers below 201: then the ledger has the entry, which waits for ibcw_commit. Where no reply is told, *told has the kind
+   IBCW_TOLD_REFUSAL and the answer's number, and *size is 0. */
 IBCW_MUST_USE IBCW_NONNULL(1, 5, 8)
 uint32_t ibcw_apply_durably(ibcw_journal *journal, size_t chain, const uint8_t *message, size_t message_size, ibcw_told *told, uint8_t *bytes,
                             size_t room, size_t *size);

@@ -805,7 +805,7 @@ uint32_t ibcw_commit(ibcw_journal *journal, uint32_t log_place)
 static uint32_t may_ask(ibcw_journal *journal, size_t chain)
 {
     if (journal->has_ended) return fail(journal, IBCW_JOURNAL_ENDED);
-    return chain < journal->chains ? (uint32_t)IBCW_DONE : fail(journal, IBCW_UNKNOWN_CHAIN);
+    return chain < journal->chains ? (uint32_t)IBCW_DONE : fail(journal, IBCW_NOTHING_THERE);
 }
 
 /* Whether a ledger that answers so has a new entry. */
@@ -817,8 +817,7 @@ static uint32_t put_answered(ibcw_journal *journal, uint32_t answer)
     uint32_t put;
     if (!has_entry(answer)) return fail(journal, answer);
     put = ibcw_commit(journal, 0);
-    if (put == IBCW_NO_MEMORY) put = fail(journal, IBCW_JOURNAL_WAITS);
-    return put;
+    return put == IBCW_DONE || put >= IBCW_JOURNAL_NO_FILE ? put : fail(journal, IBCW_JOURNAL_WAITS);
 }
 
 /* Where a reply is told. */

@@ -584,8 +584,8 @@ static void try_refused_commits(ibcw_journal *journal)
     uint64_t entries = entries_of(journal);
     event of = drawn_event();
     of.chain = 2;
-    want(ask_durably(journal, &of, &reply), IBCW_UNKNOWN_CHAIN, "a chain that isn't there");
-    want_true(reply.told.kind == IBCW_TOLD_REFUSAL && reply.told.number == IBCW_UNKNOWN_CHAIN && reply.size == 0, "no reply");
+    want(ask_durably(journal, &of, &reply), IBCW_NOTHING_THERE, "a chain that isn't there");
+    want_true(reply.told.kind == IBCW_TOLD_REFUSAL && reply.told.number == IBCW_NOTHING_THERE && reply.size == 0, "no reply");
     want(ibcw_apply_durably(journal, 0, (const uint8_t *)"c", 1, &reply.told, reply.bytes, sizeof reply.bytes, &reply.size), IBCW_NO_MESSAGE, "no message");
     of.chain = 1;
     ask(ledgers, &of, &reply);

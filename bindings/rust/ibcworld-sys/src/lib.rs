@@ -6,6 +6,9 @@
 // (what a call says stands here in the words of the header, without marks)
 #![allow(clippy::doc_markdown)]
 
+#[cfg(feature = "journal")]
+pub mod journal;
+
 /// The version of the header for which this crate is written: 10,000 times the first number, 100 times the second, and the third.
 pub const VERSION: u32 = 10_000;
 

@@ -10,6 +10,8 @@
 mod genesis;
 mod history;
 mod ics23;
+#[cfg(feature = "journal")]
+mod journal;
 mod ledger;
 mod lists;
 mod message;
@@ -26,6 +28,8 @@ mod world;
 
 pub use genesis::Genesis;
 pub use history::{Effect, Entry, Event, History};
+#[cfg(feature = "journal")]
+pub use journal::{FaultKind, Journal, JournalEnd, JournalFault};
 pub use ledger::{Ledger, Totals};
 pub use lists::{Account, ChannelNotes, Holding};
 pub use message::{
