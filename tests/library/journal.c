@@ -7,9 +7,12 @@
        journal kills FOLDER N SEED   so many programs that are ended by SIGKILL
        journal memory FOLDER         each allocation of an opening and of a commit is refused, the library's and sqlite3's
        journal disk FOLDER           commits that fail: by a limit, and for want of room where FOLDER is a small disk
-       journal go FILE N SEED        goes on with a journal, or begins one, by so many events, and prints how many entries there are
+       journal go FILE N SEED [kill] goes on with a journal, or begins one, by so many events, and prints how many entries there are; then ends by SIGKILL, or well
+       journal genesis               prints the text of the genesis
 
    FOLDER is empty. Link it with sqlite3 and -Wl,--wrap=malloc,--wrap=realloc,--wrap=calloc. */
+#define _GNU_SOURCE
+
 #include "ibcworld_journal.h"
 #include "ibcworld_messages.h"
 
@@ -947,11 +950,12 @@ static void try_disk(const char *folder)
 /* ---- beside other programs */
 
 /* Goes on with a journal. */
-static void go(const char *path, int count)
+static void go(const char *path, int count, int is_killed)
 {
     ibcw_journal *journal = open_well(path, GENESIS);
     go_on(journal, count);
     printf("%llu entries\n", (unsigned long long)entries_of(journal));
+    if (is_killed) raise(SIGKILL);
     ibcw_close_journal(journal);
 }
 
@@ -960,7 +964,7 @@ int main(int count, char **words)
     const char *part = count > 1 ? words[1] : "";
     setvbuf(stdout, NULL, _IOLBF, 0);
     watch_sqlite();
-    if (count == 5) drawn = strtoull(words[4], NULL, 10);
+    if (count >= 5) drawn = strtoull(words[4], NULL, 10);
     if (count == 3 && strcmp(part, "faults") == 0)
         try_faults(words[2]);
     else if (count > 2 && strcmp(part, "texts") == 0)
@@ -973,8 +977,10 @@ int main(int count, char **words)
         try_memory(words[2]);
     else if (count == 3 && strcmp(part, "disk") == 0)
         try_disk(words[2]);
-    else if (count == 5 && strcmp(part, "go") == 0)
-        go(words[2], atoi(words[3]));
+    else if (count >= 5 && strcmp(part, "go") == 0)
+        go(words[2], atoi(words[3]), count > 5);
+    else if (strcmp(part, "genesis") == 0)
+        fputs(GENESIS, stdout);
     else
         stop(part, "no part of the test");
     return 0;
