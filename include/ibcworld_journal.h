@@ -1,21 +1,23 @@
-/* A world that survives a crash and a power cut. Its journal is a SQLite file that keeps what the ledgers were asked and what they answered, in the form of
-   crates/ibc_journal/JOURNAL.md: ibcnode goes on with the file and audits it, and this goes on with ibcnode's. It is C over the calls of ibcworld.h and the
-   system's sqlite3 (bindings/c/journal.c): link libibcworld_journal.a, as `pkg-config --libs ibcworld_journal` says. The calls that it rests on are proved: what
-   is stored of an entry, its digest, and the replay. No proof covers the C and sqlite3 between them, which tests/library/journal.c tests.
+/* A world that survives a crash and a power cut. Its journal is a SQLite file that keeps what the ledgers were asked and what they answered. The file's form is
+   that of crates/ibc_journal/JOURNAL.md: ibcnode goes on with it and audits it, and this goes on with ibcnode's. It is C over the calls of ibcworld.h and the system's
+   sqlite3: link libibcworld_journal.a, as `pkg-config --libs ibcworld_journal` says. Proved are the calls below it: what is stored of an entry, its digest, and
+   the replay. No proof covers the C and sqlite3 between them. tests/library/journal.c tests these.
 
    First calls. ibcw_open_journal makes the file or opens it, and makes the ledgers again. ibcw_journal_ledgers tells where they are, by the numbers of their
-   chains. ibcw_apply_durably and ibcw_end_block_durably ask one of them, and answer once the entry is on the disk. Or ask the ledgers by any calls and
-   helpers, as ibcw_open and ibcw_relay, and then call ibcw_commit: it puts in all that the file hasn't yet, in one commit. Tell nobody an answer before that. A crash
-   leaves all of a commit or nothing of it. ibcw_close_journal ends it. examples/library/c/durable.c is a short program.
+   chains. ibcw_apply_durably and ibcw_end_block_durably ask one of them, and answer once its entry is on the disk. ibcw_close_journal ends it.
+   examples/library/c/durable.c is a short program.
 
-   Answers. Each call answers 0, a number of ibcworld.h, or one of ibcw_journal_fault_number. Of the latter ibcw_journal_fault tells the place and the text.
+   Many under one commit. Ask the ledgers by any calls and helpers, as ibcw_open and ibcw_relay. Then call ibcw_commit, which puts in all that the file
+   hasn't yet. Tell nobody an answer before it. A crash leaves all of a commit, or nothing of it.
 
-   Where a commit fails (IBCW_JOURNAL_HELD to IBCW_JOURNAL_FAILED), the ledgers have the entries, and the file has all of them or none. No answer of them is told.
-   From then on each commit answers IBCW_JOURNAL_ENDED. Close the journal and open it again: what the file has is what happened.
+   Answers. Each call answers 0, a number of ibcworld.h, or one of ibcw_journal_fault_number. ibcw_journal_fault tells the last one with its place and its text.
 
-   What the caller owes. One thread at a time uses a journal and its ledgers, in whatever order. The ledgers stay where they are: they are not freed, taken or joined,
-   and none is copied. Nothing is open over a fork. One process has the file at a time, and another one is answered IBCW_JOURNAL_HELD; within a process no other code opens
-   the file, since closing it there gives up the lock. The file and FILE-wal beside it belong together. */
+   A commit that fails. From IBCW_JOURNAL_HELD to IBCW_JOURNAL_FAILED sqlite3 says why. The ledgers have the entries then, and the file has all of them
+   or none. No answer of them is told. From then on each commit answers IBCW_JOURNAL_ENDED. Close the journal and open it again: what the file has is what happened.
+
+   What the caller owes. One thread at a time uses a journal and its ledgers. The ledgers stay where they are: none is freed, taken, joined or copied. No journal
+   is open over a fork. One process has the file at a time. Within that process no other code opens it, since closing a file gives up its locks. The file
+   and FILE-wal beside it belong together. */
 #ifndef IBCWORLD_JOURNAL_H
 #define IBCWORLD_JOURNAL_H
 
@@ -50,7 +52,7 @@ typedef enum {
     IBCW_JOURNAL_FAILED = 220,        /* anything else, as an error of the disk */
     /* of calls */
     IBCW_JOURNAL_ENDED = 221,         /* a commit failed before */
-    IBCW_JOURNAL_WAITS = 222,         /* the ledger has its entry, and memory was refused for putting it in: it waits for ibcw_commit */
+    IBCW_JOURNAL_WAITS = 222,         /* the ledger has its entry, which waits for ibcw_commit, since memory was refused */
     IBCW_JOURNAL_OLD_PLACE = 223,     /* the place of the log isn't above the last one that is kept */
     IBCW_JOURNAL_NO_ORDER = 224       /* in no order the entries have their answers: threads asked the ledgers at the same time */
 } ibcw_journal_fault_number;
@@ -73,10 +75,11 @@ typedef struct ibcw_journal ibcw_journal;
 IBCW_MUST_USE IBCW_NONNULL(3)
 uint32_t ibcw_read_genesis(const char *text, size_t size, ibcw_genesis *genesis);
 
-/* Opens the journal in a file, and makes its ledgers again: each entry's digest is compared, and each answer. Where the file isn't there or has no table,
-   a world begins with the genesis' text, which the journal keeps byte for byte. A null pointer stands for no text: then the file has to be a journal. Where one is
-   given, the journal has to have begun with it. *journal is the new journal, or null where another number than 0 is answered. Then *fault tells why, where
-   `fault` isn't null. A file that isn't taken stays as it was. IBCW_NO_MEMORY; IBCW_JOURNAL_NO_FILE to IBCW_JOURNAL_FAILED. */
+/* Opens the journal in a file, and makes its ledgers again: each entry's digest is compared, and each answer. Where the file isn't there or has no table, a
+   world begins with the genesis' text, which the journal keeps byte for byte. Where the file is a journal, it has to have begun with it. A null pointer
+   stands for no text: then the file has to be a journal. *journal is the new journal, or null where the answer isn't 0. Then *fault tells why, where
+   `fault` isn't null. A file that isn't taken stays as it was. IBCW_NO_MEMORY; IBCW_JOURNAL_NO_FILE to IBCW_JOURNAL_FAILED: of several the first that ibcnode would
+   tell. */
 IBCW_MUST_USE IBCW_NONNULL(1, 4)
 uint32_t ibcw_open_journal(const char *file, const char *genesis, size_t genesis_size, ibcw_journal **journal, ibcw_fault *fault);
 
@@ -88,8 +91,8 @@ ibcw_ledger *ibcw_journal_ledgers(ibcw_journal *journal, size_t *count);
 IBCW_MUST_USE IBCW_NONNULL(1, 2)
 const char *ibcw_journal_genesis(const ibcw_journal *journal, size_t *size);
 
-/* How far the file goes: how many entries it has, the last of which stands at the place before; the last place of a log that came with one, or 0; and the
-   digest of the last entry, or of the beginning, which tells of all before it. Keep the last place elsewhere too: nothing tells that last entries are missing. */
+/* How far the file goes. The last entry stands at the place `entries - 1`: keep it elsewhere too, since nothing tells that last entries are missing.
+   The place of a log is the last one that came with an entry, or 0. The digest is that of the last entry, or of the beginning, and tells of all before it. */
 typedef struct {
     uint64_t entries;
     uint32_t log_place;
@@ -99,16 +102,16 @@ typedef struct {
 IBCW_NONNULL(1, 2)
 void ibcw_journal_told(const ibcw_journal *journal, ibcw_journal_end *end);
 
-/* Puts in all entries that the ledgers have and the file hasn't, by one commit, and answers 0 once they are on the disk, or where there are none. They stand in an order in
-   which each ledger would answer so again. Their events came by this place of a log of the caller's, or by none where it is 0. IBCW_JOURNAL_ENDED;
-   IBCW_EMPTY and IBCW_OTHER_KIND of a ledger's handle; IBCW_OTHER_WORLD where one isn't where it was; IBCW_JOURNAL_OLD_PLACE, IBCW_JOURNAL_FULL,
-   IBCW_JOURNAL_NO_ORDER, IBCW_NO_MEMORY: then nothing has changed. IBCW_JOURNAL_HELD to IBCW_JOURNAL_FAILED: then the journal has ended. */
+/* Puts in all entries that the ledgers have and the file hasn't, by one commit. The answer is 0 once they are on the disk, or where there are none. They
+   stand in an order in which each ledger would answer so again. Their events came by this place of a log of the caller's, or by none where it is 0.
+   IBCW_JOURNAL_ENDED; IBCW_EMPTY and IBCW_OTHER_KIND of a ledger's handle; IBCW_OTHER_WORLD where a ledger isn't where it was; IBCW_JOURNAL_OLD_PLACE,
+   IBCW_JOURNAL_FULL, IBCW_JOURNAL_NO_ORDER, IBCW_NO_MEMORY: then nothing has changed. IBCW_JOURNAL_HELD to IBCW_JOURNAL_FAILED: then the journal has ended. */
 IBCW_MUST_USE IBCW_NONNULL(1)
 uint32_t ibcw_commit(ibcw_journal *journal, uint32_t log_place);
 
-/* Applies a message to the ledger of a chain, as ibcw_apply, puts its entry in, and only then tells the reply. What waited is put in with it. The answer is the reply's
-   number, as there. IBCW_JOURNAL_ENDED, and IBCW_NOTHING_THERE where there is no such chain: then no ledger was asked. What ibcw_commit answers, but that it is
-   IBCW_JOURNAL_WAITS in place of its numbers below 201: then the ledger has the entry, which waits for ibcw_commit. Where no reply is told, *told has the kind
+/* Applies a message to the ledger of a chain, as ibcw_apply, puts its entry in, and only then tells the reply. What waited is put in with it. The answer is the
+   reply's number, as there. IBCW_JOURNAL_ENDED, and IBCW_NOTHING_THERE where there is no such chain: then no ledger was asked. Else it is what
+   ibcw_commit answers, with IBCW_JOURNAL_WAITS in place of numbers below 201. Then the ledger has the entry, and no reply is told: *told has the kind
    IBCW_TOLD_REFUSAL and the answer's number, and *size is 0. */
 IBCW_MUST_USE IBCW_NONNULL(1, 5, 8)
 uint32_t ibcw_apply_durably(ibcw_journal *journal, size_t chain, const uint8_t *message, size_t message_size, ibcw_told *told, uint8_t *bytes,
@@ -122,7 +125,7 @@ uint32_t ibcw_end_block_durably(ibcw_journal *journal, size_t chain, uint64_t ne
 IBCW_MUST_USE IBCW_NONNULL(1)
 const ibcw_fault *ibcw_journal_fault(const ibcw_journal *journal);
 
-/* Audits the ledgers, as ibcw_make_audit, what waits among it. */
+/* Audits the ledgers, as ibcw_make_audit. What waits for a commit is among it. */
 IBCW_MUST_USE IBCW_NONNULL(1, 2)
 uint32_t ibcw_audit_journal(ibcw_journal *journal, ibcw_audit *audit);
 
