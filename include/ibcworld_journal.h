@@ -3,9 +3,9 @@
    sqlite3: link libibcworld_journal.a, as `pkg-config --libs ibcworld_journal` says. Proved are the calls below it: what is stored of an entry, its digest, and
    the replay. No proof covers the C and sqlite3 between them. tests/library/journal.c tests these.
 
-   First calls. ibcw_open_journal makes the file or opens it, and makes the ledgers again. ibcw_journal_ledgers tells where they are, by the numbers of their
-   chains. ibcw_apply_durably and ibcw_end_block_durably ask one of them, and answer once its entry is on the disk. ibcw_close_journal ends it.
-   examples/library/c/durable.c is a short program.
+   First calls. Call ibcw_open_journal, which makes the file or opens it, and makes the ledgers again. Learn from ibcw_journal_ledgers where they are, by the
+   numbers of their chains. Ask one of them by ibcw_apply_durably or ibcw_end_block_durably, which answer once its entry is on the disk. End by
+   ibcw_close_journal. A short program is examples/library/c/durable.c.
 
    Many under one commit. Ask the ledgers by any calls and helpers, as ibcw_open and ibcw_relay. Then call ibcw_commit, which puts in all that the file
    hasn't yet. Tell nobody an answer before it. A crash leaves all of a commit, or nothing of it.
