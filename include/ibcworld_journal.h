@@ -91,14 +91,16 @@ ibcw_ledger *ibcw_journal_ledgers(ibcw_journal *journal, size_t *count);
 IBCW_MUST_USE IBCW_NONNULL(1, 2)
 const char *ibcw_journal_genesis(const ibcw_journal *journal, size_t *size);
 
-/* How far the file goes. The last entry stands at the place `entries - 1`: keep it elsewhere too, since nothing tells that last entries are missing.
-   The place of a log is the last one that came with an entry, or 0. The digest is that of the last entry, or of the beginning, and tells of all before it. */
+/* How far a journal's file goes: how many entries it has, the last place of a log that came with one (0 for none), and the digest of the last, or of the
+   beginning. */
 typedef struct {
     uint64_t entries;
     uint32_t log_place;
     uint8_t digest[32];
 } ibcw_journal_end;
 
+/* Tells how far the file goes. The last entry stands at the place `entries - 1`: keep it elsewhere too, since nothing tells that last entries are missing. The digest tells
+   of all entries before it. */
 IBCW_NONNULL(1, 2)
 void ibcw_journal_told(const ibcw_journal *journal, ibcw_journal_end *end);
 
@@ -110,8 +112,8 @@ IBCW_MUST_USE IBCW_NONNULL(1)
 uint32_t ibcw_commit(ibcw_journal *journal, uint32_t log_place);
 
 /* Applies a message to the ledger of a chain, as ibcw_apply, puts its entry in, and only then tells the reply. What waited is put in with it. The answer is the
-   reply's number, as there. IBCW_JOURNAL_ENDED, and IBCW_NOTHING_THERE where there is no such chain: then no ledger was asked. Else it is what
-   ibcw_commit answers, with IBCW_JOURNAL_WAITS in place of numbers below 201. Then the ledger has the entry, and no reply is told: *told has the kind
+   reply's number, as there. IBCW_JOURNAL_ENDED, and IBCW_NOTHING_THERE where there is no such chain: then no ledger was asked. Where ibcw_commit
+   is refused, its number is the answer, or IBCW_JOURNAL_WAITS in place of one below 201. Then the ledger has the entry. Where no reply is told, *told has the kind
    IBCW_TOLD_REFUSAL and the answer's number, and *size is 0. */
 IBCW_MUST_USE IBCW_NONNULL(1, 5, 8)
 uint32_t ibcw_apply_durably(ibcw_journal *journal, size_t chain, const uint8_t *message, size_t message_size, ibcw_told *told, uint8_t *bytes,

@@ -35,7 +35,14 @@ static const char *const GENESIS =
     "{\"capacity\": 1000000, \"window\": 3, \"chains\": [{\"name\": \"a\", \"time\": 100, \"balances\": [[\"alice\", \"atom\", \"1000000\"]]},\n"
     " {\"name\": \"b\", \"time\": 100, \"balances\": []}], \"steps\": []}\n";
 
+static const char *const GENESIS_OF_THREE =
+    "{\"capacity\": 1000000, \"window\": 2, \"chains\": [{\"name\": \"a\", \"time\": 100, \"balances\": []}, {\"name\": \"b\", \"time\": 100, \"balances\": []},"
+    " {\"name\": \"c\", \"time\": 100, \"balances\": [[\"alice\", \"atom\", \"5\"]]}], \"steps\": []}";
+
 static int done;
+
+/* How many chains are asked. */
+static size_t chains = 2;
 
 static void stop(const char *what, const char *why)
 {
@@ -216,18 +223,20 @@ static event drawn_event(void)
     static const uint8_t root[32];
     event of;
     ibcw_message message;
-    of.chain = draw(2);
+    size_t other;
+    of.chain = draw(chains);
+    other = (of.chain + 1 + draw(chains - 1)) % chains;
     of.time = draw(20) == 0 ? TIME - 1 : TIME;
     of.is_block = 1;
     switch (draw(4)) {
     case 0:
         message = ibcw_message_of(IBCW_CREATE_CLIENT);
-        message.chain = (uint8_t)(draw(10) == 0 ? 7 : 1 - of.chain);
+        message.chain = (uint8_t)(draw(10) == 0 ? 7 : other);
         break;
     case 1:
         message = ibcw_message_of(IBCW_UPDATE_CLIENT);
-        message.client = ibcw_text("inprocess-0");
-        message.chain = (uint8_t)(1 - of.chain);
+        message.client = ibcw_text(draw(2) == 0 ? "inprocess-0" : "inprocess-1");
+        message.chain = (uint8_t)other;
         message.header_height = 1 + draw(12);
         message.header_time = TIME;
         message.root = ibcw_bytes_of(root, sizeof root);
@@ -609,38 +618,56 @@ static void try_refused_commits(ibcw_journal *journal)
     tried("commits that are refused", "nothing has changed");
 }
 
-static void try_order(const char *folder)
+/* Asks all ledgers by turns for so many events, and commits now and then. What waits at the end is put in by a place of a log. */
+static void ask_by_turns(ibcw_journal *journal, int events)
 {
-    char path[NAME], copy[NAME];
-    ibcw_journal *journal = open_well(join(path, folder, "order.db"), GENESIS), *again;
-    ibcw_journal_end end;
     size_t count = 0;
     ibcw_ledger *ledgers = ibcw_journal_ledgers(journal, &count);
     uint64_t waiting = 0;
     int k;
-    want_true(count == 2, "two ledgers");
-    for (k = 0; k < 3000; k++) {
+    want_true(count == chains, "all ledgers");
+    for (k = 0; k < events; k++) {
         ibcw_replied reply;
         event of = drawn_event();
-        uint32_t answer = ask(ledgers, &of, &reply);
-        want_true(answer < IBCW_EMPTY, "a ledger's answer");
+        want_true(ask(ledgers, &of, &reply) < IBCW_EMPTY, "a ledger's answer");
         waiting++;
         if (draw(25) > 0) continue;
-        want(ibcw_commit(journal, k == 1500 ? 7 : 0), IBCW_DONE, "a commit");
+        want(ibcw_commit(journal, 0), IBCW_DONE, "a commit");
         waiting = 0;
     }
-    want_true(entries_of(journal) == 3000 - waiting, "all that was committed");
+    want_true(entries_of(journal) == (uint64_t)events - waiting, "all that was committed");
     want(ibcw_commit(journal, 8), IBCW_DONE, "the last commit");
     want(ibcw_commit(journal, 3), IBCW_DONE, "a commit of nothing");
-    try_refused_commits(journal);
-    ibcw_journal_told(journal, &end);
-    want_true(end.entries == 3001 && end.log_place == 8, "the end");
-    copy_files(path, join(copy, folder, "again.db"));
+    want_true(entries_of(journal) == (uint64_t)events, "all events");
+}
+
+/* A copy of a journal is the same world. */
+static void want_again(ibcw_journal *journal, const char *path, const char *copy)
+{
+    ibcw_journal *again;
+    copy_files(path, copy);
     again = open_well(copy, NULL);
     want_same(journal, again);
     ibcw_close_journal(again);
     ibcw_close_journal(journal);
+}
+
+static void try_order(const char *folder)
+{
+    char path[NAME], copy[NAME];
+    ibcw_journal *journal = open_well(join(path, folder, "order.db"), GENESIS);
+    ibcw_journal_end end;
+    ask_by_turns(journal, 3000);
+    try_refused_commits(journal);
+    ibcw_journal_told(journal, &end);
+    want_true(end.entries == 3001 && end.log_place == 8, "the end");
+    want_again(journal, path, join(copy, folder, "again.db"));
     tried("two ledgers that were asked by turns", "replayed");
+    chains = 3;
+    journal = open_well(join(path, folder, "three.db"), GENESIS_OF_THREE);
+    ask_by_turns(journal, 3000);
+    want_again(journal, path, join(copy, folder, "three-again.db"));
+    tried("three ledgers that were asked by turns", "replayed");
     try_no_order();
     printf("%d things of an order\n", done);
 }
