@@ -919,7 +919,8 @@ static void try_limit(const char *path)
     char name[NAME];
     struct stat found;
     go_on(journal, 10);
-    want_true(stat(behind(name, path, "-wal"), &found) == 0 && getrlimit(RLIMIT_FSIZE, &all) == 0, "a limit");
+    want_true(getrlimit(RLIMIT_FSIZE, &all) == 0, "a limit");
+    want_true(stat(behind(name, path, "-wal"), &found) == 0, "a log");
     limit = all;
     limit.rlim_cur = (rlim_t)found.st_size + 10000;
     signal(SIGXFSZ, SIG_IGN);
