@@ -17,7 +17,11 @@
 
 enum {
     FORMAT = 1,
-    EMPTY_LOG = 64 /* a log of so many bytes has no page yet */
+    EMPTY_LOG = 64, /* a log of so many bytes has no page yet */
+    LOG_HEAD = 32,
+    PAGE_IN_LOG = 4120,   /* what a page of 4,096 bytes takes in a log */
+    LEAST_IN_PAGE = 4000, /* a page that a long text goes on in has more bytes of it */
+    MOST_FIRST_PAGES = 5  /* so many pages the tables have besides, at most, when they are made */
 };
 
 /* No journal has so many entries, and no number of an entry is so large. */
@@ -37,6 +41,7 @@ typedef struct {
 
 struct ibcw_journal {
     sqlite3 *file;
+    int64_t log_size; /* of the log that stood beside the file when it was opened */
     sqlite3_stmt *begin, *insert, *commit;
     ibcw_ledgers world; /* of which no ledger is left here: they stand beside it */
     ibcw_ledger ledgers[IBCW_MOST_CHAINS];
@@ -184,9 +189,9 @@ static int64_t length_of(const char *path)
 static uint32_t hold(ibcw_journal *journal)
 {
     const char *path = sqlite3_db_filename(journal->file, "main");
-    int64_t log = length_of(sqlite3_filename_wal(path));
-    if (log > EMPTY_LOG && length_of(path) <= 1) return fail(journal, IBCW_JOURNAL_NONE);
-    leave_log(journal->file, log > 0);
+    journal->log_size = length_of(sqlite3_filename_wal(path));
+    if (journal->log_size > EMPTY_LOG && length_of(path) <= 1) return fail(journal, IBCW_JOURNAL_NONE);
+    leave_log(journal->file, journal->log_size > 0);
     if (sqlite3_db_readonly(journal->file, "main") != 0) return said_by(journal, SQLITE_READONLY);
     return said_by(journal, run(journal->file, "PRAGMA locking_mode=EXCLUSIVE; PRAGMA synchronous=FULL; PRAGMA mmap_size=0; PRAGMA trusted_schema=OFF; "
                                                "BEGIN EXCLUSIVE; ROLLBACK"));
@@ -458,27 +463,36 @@ static uint32_t put_beginning(ibcw_journal *journal)
     return said_by(journal, code);
 }
 
-/* Makes the tables, in one transaction. */
+/* Makes the tables, in one transaction, and puts them into the file itself: so a log that is damaged later never makes the file look new. */
 static uint32_t make_tables(ibcw_journal *journal)
 {
     uint32_t answer = said_by(journal, run(journal->file, "BEGIN; " MAKE_META "; " MAKE_ENTRIES));
     if (answer == IBCW_DONE) answer = put_beginning(journal);
     if (answer == IBCW_DONE) answer = said_by(journal, run(journal->file, "COMMIT"));
+    if (answer == IBCW_DONE) answer = said_by(journal, sqlite3_wal_checkpoint_v2(journal->file, "main", SQLITE_CHECKPOINT_TRUNCATE, NULL, NULL));
     return answer;
 }
 
-/* Looks at a file that is held: it has no table, and a world begins with the genesis that is given; or it is a journal that may be gone on with. */
+/* A file with no table is new, where a world begins with the genesis that is given. A log beside it is one of which making the tables came to no end: one that is longer than that
+   is a damaged one, with entries of a journal. */
+static uint32_t judge_new(ibcw_journal *journal, const char *genesis, size_t size)
+{
+    int64_t longest = LOG_HEAD + (int64_t)PAGE_IN_LOG * (int64_t)(MOST_FIRST_PAGES + size / LEAST_IN_PAGE);
+    uint32_t answer;
+    if (journal->log_size > longest) return fail(journal, IBCW_JOURNAL_NONE);
+    if (genesis == NULL) return fail(journal, IBCW_JOURNAL_NEW);
+    answer = keep_genesis(journal, genesis, size);
+    return answer == IBCW_DONE ? make_first_world(journal) : answer;
+}
+
+/* Looks at a file that is held: it is new, or it is a journal that may be gone on with. */
 static uint32_t judge(ibcw_journal *journal, const char *genesis, size_t size, looks *found)
 {
     char sound[8];
     uint32_t answer = look(journal, found);
     if (answer != IBCW_DONE) return answer;
     if (*found == LOOKS_OTHER) return fault_of_others(journal);
-    if (*found == LOOKS_EMPTY) {
-        if (genesis == NULL) return fail(journal, IBCW_JOURNAL_NEW);
-        answer = keep_genesis(journal, genesis, size);
-        return answer == IBCW_DONE ? make_first_world(journal) : answer;
-    }
+    if (*found == LOOKS_EMPTY) return judge_new(journal, genesis, size);
     answer = ask_word(journal, "PRAGMA quick_check(1)", sound);
     if (answer == IBCW_DONE && strcmp(sound, "ok") != 0) answer = fail(journal, IBCW_JOURNAL_BROKEN);
     if (answer == IBCW_DONE) answer = read_beginning(journal);

@@ -2,6 +2,7 @@
    where the disk is full, and where each allocation is refused in turn; and in which order it puts in what several ledgers were asked.
 
        journal faults FOLDER         each fault of ibcworld_journal.h that a file can have, and that the file stays as it was
+       journal harmed FOLDER N SEED  so many files and logs that are cut, or of which a byte is changed
        journal texts FILE ..         says of each text whether a world begins so
        journal order FOLDER          ledgers that were asked by turns, and put in by one commit
        journal kills FOLDER N SEED   so many programs that are ended by SIGKILL
@@ -447,6 +448,14 @@ static void faults_of_bytes(const char *whole, const char *log, const char *copy
     refused(copy, GENESIS, IBCW_JOURNAL_NONE, "the file is no journal", "a byte beside its log");
     unlink(copy);
     refused(copy, GENESIS, IBCW_JOURNAL_NONE, "the file is no journal", "a log without its file");
+    bytes = read_file(name, &size);
+    unlink(name);
+    change(copy, "PRAGMA journal_mode=WAL");
+    bytes[0] = 0;
+    write_file(name, bytes, (size_t)size);
+    free(bytes);
+    refused(copy, GENESIS, IBCW_JOURNAL_NONE, "the file is no journal", "a file without tables beside a damaged log");
+    unlink(copy);
     unlink(name);
     refused(copy, NULL, IBCW_JOURNAL_NO_FILE, "there is no such file", "no file");
     refused(copy, "{}", IBCW_JOURNAL_BAD_GENESIS, "no world begins with the genesis", "a new file without a world");
@@ -539,6 +548,83 @@ static void try_faults(const char *folder)
     faults_of_places(folder, whole);
     fault_of_readers(whole);
     printf("%d things of files\n", done);
+}
+
+/* ---- files that are harmed */
+
+/* The digests of all entries, by their places. */
+static uint8_t (*digests_of(ibcw_journal *journal, const char *path, uint64_t *count))[32]
+{
+    sqlite3 *file = NULL;
+    sqlite3_stmt *query = NULL;
+    uint8_t(*digests)[32];
+    uint64_t k = 0;
+    *count = entries_of(journal);
+    digests = (uint8_t(*)[32])malloc((size_t)*count * 32);
+    want_true(digests != NULL && sqlite3_open(path, &file) == SQLITE_OK, "a file is opened");
+    want_true(sqlite3_prepare_v2(file, "SELECT digest FROM entries ORDER BY place", -1, &query, NULL) == SQLITE_OK, "digests");
+    for (; sqlite3_step(query) == SQLITE_ROW && k < *count; k++) memcpy(digests[k], sqlite3_column_blob(query, 0), 32);
+    want_true(k == *count, "all digests");
+    sqlite3_finalize(query);
+    sqlite3_close(file);
+    return digests;
+}
+
+/* Cuts a file, or changes a byte of it. */
+static void harm(const char *path)
+{
+    long size = 0;
+    char *bytes = read_file(path, &size);
+    if (size <= 0) stop(path, "there is nothing to be harmed");
+    if (draw(2) == 0) {
+        size = (long)draw((uint64_t)size);
+    } else {
+        long at = (long)draw((uint64_t)size);
+        bytes[at] = (char)(bytes[at] ^ (char)(1 << draw(8)));
+    }
+    write_file(path, bytes, (size_t)size);
+    free(bytes);
+}
+
+/* A harmed journal is refused with a fault of files, or has its entries; or a beginning of them, where its log was harmed. Answers whether it was opened. */
+static int judge_harmed(const char *path, uint8_t (*digests)[32], uint64_t count, int is_log)
+{
+    ibcw_journal *journal = NULL;
+    ibcw_journal_end end;
+    ibcw_fault fault;
+    uint32_t answer = ibcw_open_journal(path, GENESIS, strlen(GENESIS), &journal, &fault);
+    if (answer != IBCW_DONE) {
+        want_true(journal == NULL && answer >= IBCW_JOURNAL_NO_FILE && answer <= IBCW_JOURNAL_FAILED && fault.text[0] != 0, "a fault of a file");
+        return 0;
+    }
+    ibcw_journal_told(journal, &end);
+    want_true(is_log ? end.entries <= count : end.entries == count, "no entry more, and none less of a file");
+    want_true(end.entries == 0 || memcmp(end.digest, digests[end.entries - 1], 32) == 0, "the entries that were there");
+    ibcw_close_journal(journal);
+    return 1;
+}
+
+static void try_harms(const char *folder, int count)
+{
+    char whole[NAME], log[NAME], copy[NAME], name[NAME];
+    ibcw_journal *journal = open_well(join(whole, folder, "whole.db"), GENESIS);
+    uint8_t(*digests)[32];
+    uint64_t entries;
+    int opened[3] = {0, 0, 0}, k;
+    join(copy, folder, "copy.db");
+    go_on(journal, 400);
+    copy_files(whole, join(log, folder, "log.db"));
+    copy_files(whole, copy);
+    digests = digests_of(journal, copy, &entries);
+    ibcw_close_journal(journal);
+    for (k = 0; k < count; k++) {
+        int which = k % 3;
+        copy_files(which == 0 ? whole : log, copy);
+        harm(which == 2 ? behind(name, copy, "-wal") : copy);
+        opened[which] += judge_harmed(copy, digests, entries, which == 2);
+    }
+    free(digests);
+    printf("of %d harmed journals %d, %d and %d were opened: files, files beside a log, and logs\n", count, opened[0], opened[1], opened[2]);
 }
 
 /* ---- texts of a genesis */
@@ -995,6 +1081,8 @@ int main(int count, char **words)
     if (count >= 5) drawn = strtoull(words[4], NULL, 10);
     if (count == 3 && strcmp(part, "faults") == 0)
         try_faults(words[2]);
+    else if (count == 5 && strcmp(part, "harmed") == 0)
+        try_harms(words[2], atoi(words[3]));
     else if (count > 2 && strcmp(part, "texts") == 0)
         judge_texts(words + 2, count - 2);
     else if (count == 3 && strcmp(part, "order") == 0)
