@@ -1,7 +1,7 @@
-/* A world that survives a crash and a power cut. Its journal is a SQLite file that keeps what the ledgers were asked and what they answered. The file's form is
-   that of crates/ibc_journal/JOURNAL.md: ibcnode goes on with it and audits it, and this goes on with ibcnode's. It is C over the calls of ibcworld.h and the system's
-   sqlite3: link libibcworld_journal.a, as `pkg-config --libs ibcworld_journal` says. Proved are the calls below it: what is stored of an entry, its digest, and
-   the replay. No proof covers the C and sqlite3 between them. tests/library/journal.c tests these.
+/* A world that survives a crash and a power cut. Its journal is a SQLite file that keeps what the ledgers were asked and what they answered. The file's form
+   is that of crates/ibc_journal/JOURNAL.md: ibcnode goes on with it and audits it, and this goes on with ibcnode's. It is C over the calls of ibcworld.h and
+   the system's sqlite3: link libibcworld_journal.a, as `pkg-config --libs ibcworld_journal` says. Proved are the calls below it: what is stored of an entry,
+   its digest, and the replay. No proof covers the C and sqlite3 between them. tests/library/journal.c tests these.
 
    First calls. Call ibcw_open_journal, which makes the file or opens it, and makes the ledgers again. Learn from ibcw_journal_ledgers where they are, by the
    numbers of their chains. Ask one of them by ibcw_apply_durably or ibcw_end_block_durably, which answer once its entry is on the disk. End by
@@ -10,14 +10,16 @@
    Many under one commit. Ask the ledgers by any calls and helpers, as ibcw_open and ibcw_relay. Then call ibcw_commit, which puts in all that the file
    hasn't yet. Tell nobody an answer before it. A crash leaves all of a commit, or nothing of it.
 
-   Answers. Each call answers 0, a number of ibcworld.h, or one of ibcw_journal_fault_number. ibcw_journal_fault tells the last one with its place and its text.
+   Answers. Each call answers 0, a number of ibcworld.h, or one of ibcw_journal_fault_number. ibcw_journal_fault tells the last one with its place and its
+   text.
 
-   A commit that fails. From IBCW_JOURNAL_HELD to IBCW_JOURNAL_FAILED sqlite3 says why. The ledgers have the entries then, and the file has all of them
-   or none. No answer of them is told. From then on each commit answers IBCW_JOURNAL_ENDED. Close the journal and open it again: what the file has is what happened.
+   A commit that fails. From IBCW_JOURNAL_HELD to IBCW_JOURNAL_FAILED sqlite3 says why. The ledgers have the entries then, and the file has all of them or
+   none. No answer of them is told. From then on each commit answers IBCW_JOURNAL_ENDED. Close the journal and open it again: what the file has is what
+   happened.
 
-   What the caller owes. One thread at a time uses a journal and its ledgers. The ledgers stay where they are: none is freed, taken, joined or copied. No journal
-   is open over a fork. One process has the file at a time. Within that process no other code opens it, since closing a file gives up its locks. The file
-   and FILE-wal beside it belong together. */
+   What the caller owes. One thread at a time uses a journal and its ledgers. The ledgers stay where they are: none is freed, taken, joined or copied. No
+   journal is open over a fork. One process has the file at a time. Within that process no other code opens it, since closing a file gives up its locks. The
+   file and FILE-wal beside it belong together. */
 #ifndef IBCWORLD_JOURNAL_H
 #define IBCWORLD_JOURNAL_H
 
@@ -77,8 +79,8 @@ uint32_t ibcw_read_genesis(const char *text, size_t size, ibcw_genesis *genesis)
 
 /* Opens the journal in a file, and makes its ledgers again: each entry's digest is compared, and each answer. Where the file isn't there or has no table, a
    world begins with the genesis' text, which the journal keeps byte for byte. Where the file is a journal, it has to have begun with it. A null pointer
-   stands for no text: then the file has to be a journal. *journal is the new journal, or null where the answer isn't 0. Then *fault tells why, where
-   `fault` isn't null. A file that isn't taken stays as it was. IBCW_NO_MEMORY; IBCW_JOURNAL_NO_FILE to IBCW_JOURNAL_FAILED: of several the first that ibcnode would
+   stands for no text: then the file has to be a journal. *journal is the new journal, or null where the answer isn't 0. Then *fault tells why, where `fault`
+   isn't null. A file that isn't taken stays as it was. IBCW_NO_MEMORY; IBCW_JOURNAL_NO_FILE to IBCW_JOURNAL_FAILED: of several the first that ibcnode would
    tell. */
 IBCW_MUST_USE IBCW_NONNULL(1, 4)
 uint32_t ibcw_open_journal(const char *file, const char *genesis, size_t genesis_size, ibcw_journal **journal, ibcw_fault *fault);
@@ -99,8 +101,8 @@ typedef struct {
     uint8_t digest[32];
 } ibcw_journal_end;
 
-/* Tells how far the file goes. The last entry stands at the place `entries - 1`: keep it elsewhere too, since nothing tells that last entries are missing. The digest tells
-   of all entries before it. */
+/* Tells how far the file goes. The last entry stands at the place `entries - 1`: keep it elsewhere too, since nothing tells that last entries are missing.
+   The digest tells of all entries before it. */
 IBCW_NONNULL(1, 2)
 void ibcw_journal_told(const ibcw_journal *journal, ibcw_journal_end *end);
 
@@ -111,10 +113,10 @@ void ibcw_journal_told(const ibcw_journal *journal, ibcw_journal_end *end);
 IBCW_MUST_USE IBCW_NONNULL(1)
 uint32_t ibcw_commit(ibcw_journal *journal, uint32_t log_place);
 
-/* Applies a message to the ledger of a chain, as ibcw_apply, puts its entry in, and only then tells the reply. What waited is put in with it. The answer is the
-   reply's number, as there. IBCW_JOURNAL_ENDED, and IBCW_NOTHING_THERE where there is no such chain: then no ledger was asked. Where ibcw_commit
-   is refused, its number is the answer, or IBCW_JOURNAL_WAITS in place of one below 201. Then the ledger has the entry. Where no reply is told, *told has the kind
-   IBCW_TOLD_REFUSAL and the answer's number, and *size is 0. */
+/* Applies a message to the ledger of a chain, as ibcw_apply, puts its entry in, and only then tells the reply. What waited is put in with it. The answer is
+   the reply's number, as there. IBCW_JOURNAL_ENDED, and IBCW_NOTHING_THERE where there is no such chain: then no ledger was asked. Where ibcw_commit is
+   refused, its number is the answer, or IBCW_JOURNAL_WAITS in place of one below 201. Then the ledger has the entry. Where no reply is told, *told has the
+   kind IBCW_TOLD_REFUSAL and the answer's number, and *size is 0. */
 IBCW_MUST_USE IBCW_NONNULL(1, 5, 8)
 uint32_t ibcw_apply_durably(ibcw_journal *journal, size_t chain, const uint8_t *message, size_t message_size, ibcw_told *told, uint8_t *bytes,
                             size_t room, size_t *size);

@@ -1,5 +1,5 @@
-/* A genesis from its text, a script with no steps (docs/SCRIPTS.md, "The form of a script"): the one part of a script that the library reads. First the whole text is passed
-   over as JSON (RFC 8259). Then members are looked for in it, of which the last counts where a name stands twice. */
+/* A genesis from its text, a script with no steps (docs/SCRIPTS.md, "The form of a script"): the one part of a script that the library reads. First the
+   whole text is passed over as JSON (RFC 8259). Then members are looked for in it, of which the last counts where a name stands twice. */
 #include "ibcworld_journal.h"
 
 #include "journal.h"

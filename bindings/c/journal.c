@@ -184,8 +184,8 @@ static int64_t length_of(const char *path)
     return stat(path, &found) == 0 ? (int64_t)found.st_size : 0;
 }
 
-/* Locks the file against all others, until it is closed. Each commit syncs the log, as the node's do. Where the file is empty (which a file of one byte is to sqlite3) beside its
-   log, sqlite3 would take that for one that is done with. A file that isn't taken stays as it was, and so does its log. */
+/* Locks the file against all others, until it is closed. Each commit syncs the log, as the node's do. Where the file is empty (which a file of one byte is
+   to sqlite3) beside its log, sqlite3 would take that for one that is done with. A file that isn't taken stays as it was, and so does its log. */
 static uint32_t hold(ibcw_journal *journal)
 {
     const char *path = sqlite3_db_filename(journal->file, "main");
@@ -473,8 +473,8 @@ static uint32_t make_tables(ibcw_journal *journal)
     return answer;
 }
 
-/* A file with no table is new, where a world begins with the genesis that is given. A log beside it is one of which making the tables came to no end: one that is longer than that
-   is a damaged one, with entries of a journal. */
+/* A file with no table is new, where a world begins with the genesis that is given. A log beside it is one of which making the tables came to no end: one
+   that is longer than that is a damaged one, with entries of a journal. */
 static uint32_t judge_new(ibcw_journal *journal, const char *genesis, size_t size)
 {
     int64_t longest = LOG_HEAD + (int64_t)PAGE_IN_LOG * (int64_t)(MOST_FIRST_PAGES + size / LEAST_IN_PAGE);

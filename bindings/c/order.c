@@ -1,5 +1,5 @@
-/* The order of the entries of several ledgers (journal.h). Only an update of a client depends on another chain: on how many heights that chain has published. So it comes
-   behind the block of the last of them, and before the block of the next. */
+/* The order of the entries of several ledgers (journal.h). Only an update of a client depends on another chain: on how many heights that chain has
+   published. So it comes behind the block of the last of them, and before the block of the next. */
 #include "journal.h"
 
 enum {

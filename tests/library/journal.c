@@ -1,5 +1,5 @@
-/* A journal of the library's: what it says of files that aren't whole, or none of its own; what it keeps where programs are ended by SIGKILL at random moments,
-   where the disk is full, and where each allocation is refused in turn; and in which order it puts in what several ledgers were asked.
+/* A journal of the library's: what it says of files that aren't whole, or none of its own; what it keeps where programs are ended by SIGKILL at random
+   moments, where the disk is full, and where each allocation is refused in turn; and in which order it puts in what several ledgers were asked.
 
        journal faults FOLDER         each fault of ibcworld_journal.h that a file can have, and that the file stays as it was
        journal harmed FOLDER N SEED  so many files and logs that are cut, or of which a byte is changed
@@ -8,7 +8,7 @@
        journal kills FOLDER N SEED   so many programs that are ended by SIGKILL
        journal memory FOLDER         each allocation of an opening and of a commit is refused, the library's and sqlite3's
        journal disk FOLDER           commits that fail: by a limit, and for want of room where FOLDER is a small disk
-       journal go FILE N SEED [kill] goes on with a journal, or begins one, by so many events, and prints how many entries there are; then ends by SIGKILL, or well
+       journal go FILE N SEED [kill] goes on with a journal by so many events, prints how many entries there are, and ends well, or by SIGKILL
        journal genesis               prints the text of the genesis
 
    FOLDER is empty. Link it with sqlite3 and -Wl,--wrap=malloc,--wrap=realloc,--wrap=calloc. */
@@ -217,8 +217,8 @@ static uint64_t draw(uint64_t below)
     return (number ^ number >> 31) % below;
 }
 
-/* An event that is drawn: a block, which may have an earlier time; a client, or one of a chain that isn't there; an update with a height that is gone, there or to come, by a
-   root that is mostly wrong; or a transfer over no channel. */
+/* An event that is drawn: a block, which may have an earlier time; a client, or one of a chain that isn't there; an update with a height that is gone, there
+   or to come, by a root that is mostly wrong; or a transfer over no channel. */
 static event drawn_event(void)
 {
     static const uint8_t root[32];

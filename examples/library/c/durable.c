@@ -1,5 +1,5 @@
-/* A wallet that survives a crash: deposits come over a channel, and each is credited once its entry is on the disk. Called again with the same file, it goes on where it was,
-   also where it was ended by any signal or by a power cut.
+/* A wallet that survives a crash: deposits come over a channel, and each is credited once its entry is on the disk. Called again with the same file, it goes
+   on where it was, also where it was ended by any signal or by a power cut.
 
        durable FILE COUNT         waits for so many deposits more, and ends
        durable FILE COUNT kill    the same, and is ended by SIGKILL when the last one was taken, and not yet committed
