@@ -84,6 +84,11 @@ bytes_of kept = record { chain = kept.chain; kind = kept.kind; event = kept.even
 abbrev pub IsKeptOf : KeptEntry → Entry → Type 0
 IsKeptOf kept given = (kept.chain < 2 ^ 8) × (kept.kind < 2 ^ 8) × StoresEntry given (bytes_of kept)
 
+-- the entry of which these bytes are kept; or they are kept of none, or memory ran out
+abbrev pub IsRestored : EntryBytes → Result Entry Refused → Type 0
+IsRestored stored (Ok given) = StoresEntry given stored
+IsRestored stored (Err why) = ((why ≡ Core BadMessage) × ((given : Entry) → StoresEntry given stored → ⊥)) ⊎ (why ≡ Core NoMemory)
+
 -- the entry of which this is kept; or it is kept of none, or memory ran out
 abbrev pub FindsEntry : KeptEntry → Result Entry Refused → Type 0
 FindsEntry kept (Ok given) = IsKeptOf kept given

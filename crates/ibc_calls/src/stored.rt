@@ -1,7 +1,9 @@
 //! What a journal keeps of the entries of ledgers, and lists of such entries.
 
-ghost use Rattle.std.specs.Prelude.{◌≡◌, Some};
-ghost use Rattle.ibc_calls.specs.StoredEntries.{AddsEntry, AreWritten, EntriesGoOn, EntryAdded, FindsEntry, IsStored, MakesEntries, TellsStored, WritesStoredEntry, both_answers};
+ghost use Rattle.std.specs.Prelude.{◌≡◌, ◌<◌, ◌^◌, IfOk, IfErr, Some};
+ghost use Rattle.ibc_ids.specs.declared.refusal.Refusal.TheVariants.{BadMessage};
+ghost use Rattle.ibc_calls.specs.declared.answer.Refused.TheVariants.{Core};
+ghost use Rattle.ibc_calls.specs.StoredEntries.{AddsEntry, AreWritten, EntriesGoOn, EntryAdded, FindsEntry, IsRestored, IsStored, MakesEntries, TellsStored, WritesStoredEntry, both_answers};
 
 use crate::Refused;
 use crate::handles::{put_new, write_out};
@@ -230,9 +232,8 @@ fn entry_of(
 ) -> Result<Entry, Refused>
     ensures { FindsEntry (record { chain = chain; kind = kind; event = event.now; answer = answer.now }) result }
 {
-    let (Ok(chain), Ok(kind)) = (u8::try_from(chain), u8::try_from(kind)) else {
-        return Err(Refused::Core(Refusal::BadMessage));
-    };
+    let chain = byte_of(chain)?;
+    let kind = byte_of(kind)?;
     let event = copy_of(alloc, event)?;
     let answer = copy_of(alloc, answer)?;
     restored(
@@ -246,8 +247,20 @@ fn entry_of(
     )
 }
 
+// The byte that a number is.
+fn byte_of(number: u32) -> Result<u8, Refused>
+    ensures ok { IfOk result (λ byte. (byte ≡ number) × (number < 2 ^ 8)) }
+    ensures err { IfErr result (λ refused. (refused ≡ Core BadMessage) × ¬ (number < 2 ^ 8)) }
+{
+    if number < 256 {
+        Ok(number as u8)
+    } else {
+        Err(Refused::Core(Refusal::BadMessage))
+    }
+}
+
 fn restored(alloc: Global, stored: EntryBytes) -> Result<Entry, Refused>
-    ensures { FindsEntry (record { chain = stored.chain; kind = stored.kind; event = stored.event; answer = stored.answer }) result }
+    ensures { IsRestored stored result }
 {
     let found = restore(alloc, &stored);
     drop(stored);
