@@ -201,10 +201,12 @@ static int read_number(rest *of, number_parts *parts)
     return 1;
 }
 
-/* Whether a double holds a number of these parts (IEEE 754): it is below 2^1024 - 2^970, which has 309 digits and begins with these. */
+/* Whether a double holds a number of these parts (IEEE 754): it is below 2^1024 - 2^970, which are these 309 digits. */
 static int is_finite(const number_parts *parts, const char *end)
 {
-    static const char least[] = "17976931348623158079";
+    static const char least[] = "1797693134862315807937289714053034150799341327100378269361737789804449682927647509466490179775872070963"
+                                "3028641669288791094655554785194040263065748867150582068190890200070838367627385484581771153176447573027"
+                                "0069855571366959622842914819860834936475292719074168444365510704342711559699508093042880177904174497792";
     const char *digit = parts->digits, *other;
     if (parts->scale != 309) return parts->scale < 309 || digit == end || !is_digit((unsigned char)*digit);
     for (other = least; *other != 0; other++) {
