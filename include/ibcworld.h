@@ -73,6 +73,7 @@ typedef struct { ibcw_handle handle; } ibcw_plan;     /* the messages that a rel
 typedef struct { ibcw_handle handle; } ibcw_balances; /* who holds how much of what */
 typedef struct { ibcw_handle handle; } ibcw_notes;    /* the notes that came over each channel */
 typedef struct { ibcw_handle handle; } ibcw_audit;    /* what the ledgers of a world hold */
+typedef struct { ibcw_handle handle; } ibcw_entries;  /* what a journal keeps of a world, entry by entry */
 
 enum {
     IBCW_DONE = 0,
@@ -116,7 +117,8 @@ enum {
     IBCW_NOTHING_THERE = 105, /* there is nothing there */
     IBCW_OTHER_WORLD = 106,   /* the ledger is of another world */
     IBCW_NO_MESSAGE = 107,    /* the bytes spell no message */
-    IBCW_NO_DATA = 108        /* the bytes spell no data of tokens */
+    IBCW_NO_DATA = 108,       /* the bytes spell no data of tokens */
+    IBCW_OTHER_ANSWER = 109   /* another answer is due than the stored one */
 };
 
 /* The version of the archive that is linked: IBCWORLD_VERSION of its header. */
@@ -173,8 +175,8 @@ uint32_t ibcw_make_audit(ibcw_ledgers *ledgers, ibcw_audit *audit);
 IBCW_NONNULL(1)
 uint32_t ibcw_free(ibcw_handle *handle);
 
-/* Tells how many entries a ledger's history has, messages a plan, holdings a list of balances, channels a list of notes, or chains an audit. For one
-   chain of an audit there are ibcw_holding_count and ibcw_note_channel_count. IBCW_EMPTY, IBCW_OTHER_KIND. */
+/* Tells how many entries a ledger's history has, messages a plan, holdings a list of balances, channels a list of notes, chains an audit, or entries a
+   journal's list. For one chain of an audit there are ibcw_holding_count and ibcw_note_channel_count. IBCW_EMPTY, IBCW_OTHER_KIND. */
 IBCW_MUST_USE IBCW_NONNULL(1, 2)
 uint32_t ibcw_length(ibcw_handle *handle, uint64_t *count);
 
@@ -398,6 +400,72 @@ uint32_t ibcw_make_plan(ibcw_view *from, ibcw_view *to, ibcw_plan *plan);
    IBCW_NOTHING_THERE, IBCW_TOO_SHORT; IBCW_BAD_MESSAGE where the message is too long for a spelling. */
 IBCW_MUST_USE IBCW_NONNULL(1, 5)
 uint32_t ibcw_plan_message(ibcw_plan *plan, uint64_t index, uint8_t *message, size_t room, size_t *size);
+
+/* ---- journals */
+
+/* A journal keeps the entries of all ledgers of a world, in the order in which they came. Who has them and the genesis has the world: ibcw_stored tells
+   what is kept, and ibcw_make_replayed makes the ledgers again. These calls open no file. The file's form stands in crates/ibc_journal/JOURNAL.md. */
+typedef struct {
+    uint32_t chain; /* the number of the chain, from 0 on */
+    uint32_t kind;  /* IBCW_STORED_BLOCK or IBCW_STORED_MESSAGE */
+} ibcw_entry_numbers;
+
+enum {
+    IBCW_STORED_BLOCK = 0,  /* the end of a block. The event is the time of the next one, 8 bytes */
+    IBCW_STORED_MESSAGE = 1 /* a message. The event is the bytes that spell it */
+};
+
+enum {
+    IBCW_ANSWER_ROOM = 1029, /* no answer has more bytes */
+    IBCW_DIGEST_SIZE = 32    /* a digest has so many bytes */
+};
+
+/* Tells what a journal keeps of an entry of the history, which are numbered from 0. Writes the bytes of the event, and those of the answer: the reply, and
+   behind it what an update of a client read. IBCW_EMPTY, IBCW_OTHER_KIND, IBCW_NOTHING_THERE; IBCW_TOO_SHORT where one of the two places is too short.
+   Then *numbers and both sizes are told, and the other place is written where it has room. IBCW_ANSWER_ROOM is always enough for the answer. */
+IBCW_MUST_USE IBCW_NONNULL(1, 3, 6, 9)
+uint32_t ibcw_stored(ibcw_ledger *ledger, uint64_t index, ibcw_entry_numbers *numbers, uint8_t *event,
+                     size_t event_room, size_t *event_size, uint8_t *answer, size_t answer_room,
+                     size_t *answer_size);
+
+/* Makes a list with no entries in an empty handle. IBCW_FULL. */
+IBCW_MUST_USE IBCW_NONNULL(1)
+uint32_t ibcw_make_entries(ibcw_entries *entries);
+
+/* Adds the entry of which a journal keeps this, behind the others: the one of which ibcw_stored tells it. IBCW_EMPTY, IBCW_OTHER_KIND;
+   IBCW_BAD_MESSAGE exactly where this is kept of no entry. Nothing is kept of two entries. */
+IBCW_MUST_USE IBCW_NONNULL(1)
+uint32_t ibcw_add_entry(ibcw_entries *entries, uint32_t chain, uint32_t kind, const uint8_t *event, size_t event_size,
+                        const uint8_t *answer, size_t answer_size);
+
+/* Makes all ledgers of a genesis in an empty handle, as they stand behind these entries: a world of its own, as by ibcw_make_ledgers. Its ledgers are asked
+   again for each event, and each answer is compared with the stored one. Where the answer is 0, the entries are exactly what its ledgers keep, in
+   their order. The genesis stays. IBCW_FULL of the ledgers; IBCW_EMPTY and IBCW_OTHER_KIND of the genesis, and then of the entries: then the entries
+   stay. Whatever else is answered, their handle is empty then: so none is copied. IBCW_BAD_MESSAGE exactly where no world begins so. IBCW_OTHER_ANSWER
+   where an entry has another answer than is due, and all before it have the one that is. *place counts it from 0, and what is due is told as
+   ibcw_stored would: *size bytes, which are written where there is room. IBCW_ANSWER_ROOM is always enough. IBCW_UNKNOWN_CHAIN where it is an event for a
+   chain that the genesis hasn't: then *place alone is told. */
+IBCW_MUST_USE IBCW_NONNULL(1, 2, 3, 4, 7)
+uint32_t ibcw_make_replayed(ibcw_genesis *genesis, ibcw_entries *entries, ibcw_ledgers *ledgers, uint64_t *place,
+                            uint8_t *due, size_t room, size_t *size);
+
+/* The same under a number by which the caller tells worlds apart, as for ibcw_make_numbered_ledgers. */
+IBCW_MUST_USE IBCW_NONNULL(1, 3, 4, 5, 8)
+uint32_t ibcw_make_numbered_replayed(ibcw_genesis *genesis, uint64_t world, ibcw_entries *entries,
+                                     ibcw_ledgers *ledgers, uint64_t *place, uint8_t *due, size_t room,
+                                     size_t *size);
+
+/* Writes the digest of a journal's beginning, 32 bytes: SHA-256 of the number of the format, which is 1, and of the genesis' text as the journal has it.
+   IBCW_TOO_SHORT. */
+IBCW_MUST_USE IBCW_NONNULL(5)
+uint32_t ibcw_first_digest(const uint8_t *genesis, size_t genesis_size, uint8_t *digest, size_t room, size_t *size);
+
+/* Writes the digest of an entry behind one with the digest `before`, or behind the beginning, 32 bytes. The event came by the place `log_place` of a
+   log, or by none where that is 0. IBCW_BAD_MESSAGE exactly where `before` hasn't 32 bytes, IBCW_TOO_SHORT. */
+IBCW_MUST_USE IBCW_NONNULL(12)
+uint32_t ibcw_next_digest(const uint8_t *before, size_t before_size, uint32_t chain, uint32_t kind, uint32_t log_place,
+                          const uint8_t *event, size_t event_size, const uint8_t *answer, size_t answer_size,
+                          uint8_t *digest, size_t room, size_t *size);
 
 /* ---- proofs, messages and packets, with no ledger */
 

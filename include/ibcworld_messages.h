@@ -61,6 +61,7 @@ static inline ibcw_meaning ibcw_meaning_of(uint32_t number)
         {106, "OtherWorld", "the ledger is of another world"},
         {107, "NoMessage", "the bytes spell no message"},
         {108, "NoData", "the bytes spell no data of tokens"},
+        {109, "OtherAnswer", "another answer is due than the stored one"},
     };
     static const ibcw_meaning unknown = {0, "Unknown", "no call answers with this number"};
     size_t k;

@@ -56,7 +56,7 @@ LIMITS = [
     *((rf"\| {kind} \| (\d+) to (\d+)", NAME, rf"(?m)^is_{kind.replace('base denomination', 'base_denom')} = is_made_of \w+ (\d+) (\d+)")
       for kind in ("user", "receiver", "memo", "base denomination", "client", "connection", "channel", "port", "version")),
     (r"hops, .*; (\d+) bytes in all", NAME, r"is_denom text = nat_le \(length text\) (\d+)"),
-    (r"(\d+) to (\d+) are those of calls", CALLS, r"(?s)number_of Empty = (\d+).*number_of NoData = (\d+)"),
+    (r"(\d+) to (\d+) are those of calls", CALLS, r"(?s)number_of Empty = (\d+).*number_of OtherAnswer = (\d+)"),
     (r"A port has (\d+) to (\d+) bytes, a client (\d+) to (\d+), a connection (\d+) to (\d+), a channel (\d+) to (\d+)", NAME,
      "(?s)" + ".*".join(rf"is_{kind} = is_made_of \w+ (\d+) (\d+)" for kind in ("port", "client", "connection", "channel"))),
     (r"name with its hops has at most (\d+) bytes", NAME, r"is_denom text = nat_le \(length text\) (\d+)"),

@@ -12,10 +12,20 @@ static uint64_t scattered(uint64_t number)
 
 /* Numbers count up, and stay below those that callers may give (2^63). An archive that is linked into two objects of one program has two counters: each
    counts from where its own address leads, so that their numbers are far apart. */
-uint32_t ibcw_make_ledgers(ibcw_genesis *genesis, ibcw_ledgers *ledgers)
+static uint64_t next_number(void)
 {
     static uint64_t last = 0;
     uint64_t first = scattered((uint64_t)(uintptr_t)&last);
-    uint64_t number = first + __atomic_add_fetch(&last, 1, __ATOMIC_RELAXED);
-    return ibcw_make_numbered_ledgers(genesis, number & 0x7fffffffffffffffu, ledgers);
+    return (first + __atomic_add_fetch(&last, 1, __ATOMIC_RELAXED)) & 0x7fffffffffffffffu;
+}
+
+uint32_t ibcw_make_ledgers(ibcw_genesis *genesis, ibcw_ledgers *ledgers)
+{
+    return ibcw_make_numbered_ledgers(genesis, next_number(), ledgers);
+}
+
+uint32_t ibcw_make_replayed(ibcw_genesis *genesis, ibcw_entries *entries, ibcw_ledgers *ledgers, uint64_t *place,
+                            uint8_t *due, size_t room, size_t *size)
+{
+    return ibcw_make_numbered_replayed(genesis, next_number(), entries, ledgers, place, due, room, size);
 }

@@ -1,6 +1,7 @@
 /* A world is its log: what ibcw_event and ibcw_reply tell of two ledgers is kept as bytes, and a second world of the same genesis is asked for it again. Each ledger's
    events go in their order, an update once the other chain has published as many heights as it had when it was seen, and a block once all have seen what they
-   saw before it. Each answer is the one that was kept, with the same roots, and both audits tell the same. */
+   saw before it. Each answer is the one that was kept, with the same roots, and both audits tell the same. What a journal keeps of the second world, in the
+   order in which it was asked, makes a third one. */
 #include "ibcworld_messages.h"
 
 #include <stdio.h>
@@ -159,6 +160,21 @@ static int is_due(const history *own, const history *other)
     return next->reply.told.kind != IBCW_TOLD_BLOCK || !is_to_be_seen(other, own->published);
 }
 
+/* What a journal keeps of the last entry of a ledger. */
+static void keep_last(ibcw_entries *journal, ibcw_ledger *ledger)
+{
+    ibcw_entry_numbers numbers;
+    uint8_t answer[IBCW_ANSWER_ROOM], *event;
+    size_t event_size = 0, answer_size = 0;
+    uint64_t count = 0;
+    want(ibcw_length(&ledger->handle, &count), IBCW_DONE, "a length");
+    want(ibcw_stored(ledger, count - 1, &numbers, NULL, 0, &event_size, answer, sizeof answer, &answer_size), IBCW_TOO_SHORT, "the room for an event");
+    event = (uint8_t *)room(event_size);
+    want(ibcw_stored(ledger, count - 1, &numbers, event, event_size, &event_size, answer, sizeof answer, &answer_size), IBCW_DONE, "a stored entry");
+    want(ibcw_add_entry(journal, numbers.chain, numbers.kind, event, event_size, answer, answer_size), IBCW_DONE, "an entry of a journal");
+    free(event);
+}
+
 static void ask_again(ibcw_ledger *ledger, history *own)
 {
     const entry *next = &own->entries[own->done++];
@@ -175,7 +191,7 @@ static void ask_again(ibcw_ledger *ledger, history *own)
     if (reply.told.kind == IBCW_TOLD_BLOCK) own->published++;
 }
 
-static void ask_all_again(world *w, history kept[CHAINS])
+static void ask_all_again(world *w, history kept[CHAINS], ibcw_entries *journal)
 {
     int is_going = 1, k;
     while (is_going) {
@@ -183,6 +199,7 @@ static void ask_all_again(world *w, history kept[CHAINS])
         for (k = 0; k < CHAINS; k++) {
             while (is_due(&kept[k], &kept[1 - k])) {
                 ask_again(&w->chains[k], &kept[k]);
+                keep_last(journal, &w->chains[k]);
                 is_going = 1;
             }
         }
@@ -223,28 +240,46 @@ static void want_holding(ibcw_audit *audit, uint64_t chain, uint64_t index, int 
     want_true(held.amount.high == 0 && held.amount.low == amount, "how much is held");
 }
 
+/* The audit of the ledgers that what a journal keeps makes. */
+static void replay(ibcw_genesis *genesis, ibcw_entries *journal, ibcw_audit *audit)
+{
+    ibcw_ledgers ledgers = IBCW_HANDLE_INIT;
+    uint8_t due[IBCW_ANSWER_ROOM];
+    uint64_t place = 0;
+    size_t size = 0;
+    want(ibcw_make_replayed(genesis, journal, &ledgers, &place, due, sizeof due, &size), IBCW_DONE, "a replay");
+    want(ibcw_free(&journal->handle), IBCW_EMPTY, "entries that were given up");
+    want(ibcw_make_audit(&ledgers, audit), IBCW_DONE, "an audit of a replay");
+    ibcw_free(&ledgers.handle);
+}
+
 int main(void)
 {
     world w = begin(), again = begin();
-    ibcw_audit audit = IBCW_HANDLE_INIT, other = IBCW_HANDLE_INIT;
+    ibcw_audit audit = IBCW_HANDLE_INIT, other = IBCW_HANDLE_INIT, third = IBCW_HANDLE_INIT;
+    ibcw_entries journal = IBCW_HANDLE_INIT;
     history kept[CHAINS];
     uint64_t entries = 0;
     int k;
     play(&w);
     for (k = 0; k < CHAINS; k++) kept[k] = kept_of(&w.chains[k]);
-    ask_all_again(&again, kept);
+    want(ibcw_make_entries(&journal), IBCW_DONE, "a list of entries");
+    ask_all_again(&again, kept, &journal);
     audit_of(&w, &audit);
     audit_of(&again, &other);
+    replay(&again.genesis, &journal, &third);
     want_holding(&audit, 0, 0, 0, "alice", "atom", 997);
     want_holding(&audit, 0, 1, 1, "channel-0", "atom", 3);
     want_holding(&audit, 1, 0, 0, "bob", "transfer/channel-0/atom", 3);
     for (k = 0; k < CHAINS; k++) {
         want_same_holdings(&audit, &other, (uint64_t)k);
+        want_same_holdings(&audit, &third, (uint64_t)k);
         entries += kept[k].count;
         free_history(&kept[k]);
     }
     ibcw_free(&audit.handle);
     ibcw_free(&other.handle);
+    ibcw_free(&third.handle);
     end(&w);
     end(&again);
     want_true(entries > 30, "as many entries as a channel and three turns have");

@@ -687,7 +687,7 @@ static void refuse_texts(world *w)
 }
 
 /* Every kind of value that a handle may hold, and none. */
-enum { GENESIS, LEDGERS, LEDGER, VIEW, PLAN, BALANCES, NOTES, AUDIT, NOTHING, KINDS };
+enum { GENESIS, LEDGERS, LEDGER, VIEW, PLAN, BALANCES, NOTES, AUDIT, ENTRIES, NOTHING, KINDS };
 
 /* The calls that ask a value of a handle, and of which kinds. They are tried with values of every other kind. */
 typedef struct {
@@ -696,7 +696,7 @@ typedef struct {
     unsigned takes;
 } asking;
 
-enum { OF_LISTS = 1 << LEDGER | 1 << PLAN | 1 << BALANCES | 1 << NOTES | 1 << AUDIT, OF_HOLDINGS = 1 << BALANCES | 1 << AUDIT, OF_NOTES = 1 << NOTES | 1 << AUDIT };
+enum { OF_LISTS = 1 << LEDGER | 1 << PLAN | 1 << BALANCES | 1 << NOTES | 1 << AUDIT | 1 << ENTRIES, OF_HOLDINGS = 1 << BALANCES | 1 << AUDIT, OF_NOTES = 1 << NOTES | 1 << AUDIT };
 
 static uint64_t number;
 static size_t written;
@@ -770,6 +770,12 @@ static uint32_t ask_view_heights(ibcw_handle *h)
 }
 static uint32_t ask_view_root(ibcw_handle *h) { return ibcw_view_root(h, NULL, 0, &written); }
 static uint32_t ask_view_proof(ibcw_handle *h) { return ibcw_view_proof(h, bytes("connections/c"), 13, NULL, 0, &written); }
+static uint32_t ask_stored(ibcw_handle *h)
+{
+    ibcw_entry_numbers numbers;
+    return ibcw_stored(h, 0, &numbers, NULL, 0, &written, NULL, 0, &written);
+}
+static uint32_t ask_add_entry(ibcw_handle *h) { return ibcw_add_entry(h, 0, 1, bytes("?"), 1, bytes("?"), 1); }
 static uint32_t ask_plan_message(ibcw_handle *h) { return ibcw_plan_message(h, 0, NULL, 0, &written); }
 
 static const asking CALLS[] = {
@@ -806,6 +812,8 @@ static const asking CALLS[] = {
     {"ibcw_view_root", ask_view_root, 1 << VIEW},
     {"ibcw_view_proof", ask_view_proof, 1 << VIEW},
     {"ibcw_plan_message", ask_plan_message, 1 << PLAN},
+    {"ibcw_stored", ask_stored, 1 << LEDGER},
+    {"ibcw_add_entry", ask_add_entry, 1 << ENTRIES},
 };
 
 /* Of two handles, one is of the wrong kind, or empty. */
@@ -813,6 +821,14 @@ static void refuse_pairs(ibcw_handle *values[KINDS], ibcw_handle *ledger, int k,
 {
     ibcw_handle plan = {0};
     ibcw_channel_totals told;
+    uint64_t place = 77;
+    size_t size = 77;
+    if (k != GENESIS && k != ENTRIES) {
+        meet(ibcw_make_replayed(values[k], values[ENTRIES], &plan, &place, NULL, 0, &size), why, "ibcw_make_replayed");
+        meet(ibcw_make_replayed(values[GENESIS], values[k], &plan, &place, NULL, 0, &size), why, "ibcw_make_replayed");
+        meet(ibcw_make_numbered_replayed(values[GENESIS], 9, values[k], &plan, &place, NULL, 0, &size), why, "ibcw_make_numbered_replayed");
+    }
+    want(place == 77 && size == 77, 1, "what isn't told of no entries");
     if (k != VIEW) {
         meet(ibcw_make_plan(values[k], values[VIEW], &plan), why, "ibcw_make_plan");
         meet(ibcw_make_plan(values[VIEW], values[k], &plan), why, "ibcw_make_plan");
@@ -839,7 +855,12 @@ static void refuse_kinds(ibcw_handle *values[KINDS], ibcw_handle *ledger)
 /* Nothing is put into a handle that holds something. */
 static void refuse_full(ibcw_handle *values[KINDS])
 {
+    uint64_t place = 77;
+    size_t size = 77;
     ibcw_handle a = view_of(values[LEDGER]);
+    meet(ibcw_make_entries(values[VIEW]), IBCW_FULL, "ibcw_make_entries");
+    meet(ibcw_make_replayed(values[GENESIS], values[ENTRIES], values[VIEW], &place, NULL, 0, &size), IBCW_FULL, "ibcw_make_replayed");
+    want(place == 77 && size == 77, 1, "what isn't told over another value");
     meet(ibcw_make_genesis(values[VIEW], 1, 1), IBCW_FULL, "ibcw_make_genesis");
     meet(ibcw_make_ledgers(values[GENESIS], values[VIEW]), IBCW_FULL, "ibcw_make_ledgers");
     meet(ibcw_take_ledger(values[LEDGERS], values[VIEW]), IBCW_FULL, "ibcw_take_ledger");
@@ -927,9 +948,11 @@ static void refuse_handles(world *w)
     uint32_t found;
     world other = begin_world(8, 8);
     ibcw_handle view = view_of(&w->x), plan = plan_of(&w->x, &w->y);
-    ibcw_handle balances = {0}, notes = {0}, audit = {0}, nothing = {0};
-    ibcw_handle *values[KINDS] = {&w->genesis, &other.ledgers, &other.x, &view, &plan, &balances, &notes, &audit, &nothing};
-    ibcw_handle *rest[] = {&w->genesis, &w->ledgers, &view, &plan, &balances, &notes, &audit};
+    ibcw_handle balances = {0}, notes = {0}, audit = {0}, entries = {0}, nothing = {0};
+    ibcw_handle *values[KINDS] = {&w->genesis, &other.ledgers, &other.x, &view, &plan, &balances, &notes, &audit, &entries, &nothing};
+    ibcw_handle *rest[] = {&w->genesis, &w->ledgers, &view, &plan, &balances, &notes, &audit, &entries};
+    WITH_REFUSALS(found, ibcw_make_entries(&entries), "a list of entries");
+    want(found, IBCW_DONE, "a list of entries");
     WITH_REFUSALS(found, ibcw_make_balances(&w->x, &balances), "balances");
     want(found, IBCW_DONE, "balances");
     want(ibcw_make_notes(&w->y, &notes), IBCW_DONE, "notes");
@@ -943,7 +966,7 @@ static void refuse_handles(world *w)
     want(ibcw_free(&other.ledgers), IBCW_DONE, "free");
     want(ibcw_make_ledgers(&other.genesis, &other.ledgers), IBCW_DONE, "ledgers");
     free_world(&other);
-    free_all(rest, 7);
+    free_all(rest, 8);
     want(ibcw_free(&nothing), IBCW_EMPTY, "free of an empty handle");
 }
 
@@ -1054,6 +1077,205 @@ static void want_totals(world *w, uint64_t escrow, uint64_t vouchers)
     meet(ibcw_totals(&w->x, &w->y, bytes("channel-9"), 9, bytes("atom"), 4, &told), IBCW_UNKNOWN_CHANNEL, "the totals of a channel that isn't there");
 }
 
+/* ---- what a journal keeps */
+
+enum { MOST_EVENT = 400 };
+
+/* What a journal keeps of an entry. */
+typedef struct {
+    ibcw_entry_numbers numbers;
+    uint8_t event[MOST_EVENT], answer[IBCW_ANSWER_ROOM];
+    size_t event_size, answer_size;
+} stored;
+
+static uint32_t store(ibcw_handle *ledger, uint64_t index, size_t event_room, size_t answer_room, stored *kept)
+{
+    return ibcw_stored(ledger, index, &kept->numbers, kept->event, event_room, &kept->event_size, kept->answer, answer_room, &kept->answer_size);
+}
+
+/* What is kept of the last entry of a ledger. Where one place has no room, the numbers and both sizes are told, and the other place is written. */
+static void store_last(ibcw_handle *ledger, stored *kept)
+{
+    stored short_of_event, short_of_answer;
+    uint32_t found;
+    uint64_t last = length_of(ledger) - 1;
+    memset(kept, 7, sizeof *kept);
+    memset(&short_of_event, 7, sizeof short_of_event);
+    memset(&short_of_answer, 7, sizeof short_of_answer);
+    WITH_REFUSALS(found, store(ledger, last, MOST_EVENT, IBCW_ANSWER_ROOM, kept), "a stored entry");
+    want(found, IBCW_DONE, "a stored entry");
+    meet(store(ledger, last, kept->event_size - 1, IBCW_ANSWER_ROOM, &short_of_event), IBCW_TOO_SHORT, "an event with no room");
+    meet(store(ledger, last, MOST_EVENT, kept->answer_size - 1, &short_of_answer), IBCW_TOO_SHORT, "an answer with no room");
+    want(short_of_event.event[0] == 7 && short_of_answer.answer[0] == 7, 1, "a place that is too short stays");
+    memcpy(short_of_event.event, kept->event, sizeof kept->event);
+    memcpy(short_of_answer.answer, kept->answer, sizeof kept->answer);
+    want((uint32_t)memcmp(&short_of_event, kept, sizeof *kept), 0, "what is told where the event has no room");
+    want((uint32_t)memcmp(&short_of_answer, kept, sizeof *kept), 0, "what is told where the answer has no room");
+    meet(store(ledger, last + 1, MOST_EVENT, IBCW_ANSWER_ROOM, &short_of_event), IBCW_NOTHING_THERE, "an entry to come");
+    want((uint32_t)memcmp(&short_of_event, kept, sizeof *kept), 0, "what isn't told of an entry to come");
+}
+
+static uint32_t add_stored(ibcw_handle *entries, const stored *kept)
+{
+    return ibcw_add_entry(entries, kept->numbers.chain, kept->numbers.kind, kept->event, kept->event_size, kept->answer, kept->answer_size);
+}
+
+static ibcw_handle entries_of(const stored *kept, size_t count)
+{
+    ibcw_handle entries = {0};
+    uint32_t found;
+    want(ibcw_make_entries(&entries), IBCW_DONE, "a list of entries");
+    for (size_t k = 0; k < count; k++) {
+        WITH_REFUSALS(found, add_stored(&entries, &kept[k]), "an entry of a list");
+        want(found, IBCW_DONE, "an entry of a list");
+        want((uint32_t)length_of(&entries), (uint32_t)k + 1, "how many entries a list has");
+    }
+    return entries;
+}
+
+/* Bytes and numbers that are kept of no entry. */
+static void refuse_entries(const stored *kept)
+{
+    stored other[5] = {*kept, *kept, *kept, *kept, *kept};
+    ibcw_handle entries = {0};
+    want(ibcw_make_entries(&entries), IBCW_DONE, "a list of entries");
+    other[0].numbers.chain += 256;
+    other[1].numbers.kind = 2;
+    other[2].event_size--;
+    other[3].answer_size++;
+    other[4].answer[0] = 3;
+    for (int k = 0; k < 5; k++) meet(add_stored(&entries, &other[k]), IBCW_BAD_MESSAGE, "what is kept of no entry");
+    want(ibcw_add_entry(&entries, 0, 0, NULL, 0, NULL, 0), IBCW_BAD_MESSAGE, "no bytes as an entry");
+    want((uint32_t)length_of(&entries), 0, "a list that is as it was");
+    want(ibcw_free(&entries), IBCW_DONE, "free");
+}
+
+/* The replay of what is kept, with each of its allocations refused in turn: the entries are given up each time. */
+static uint32_t replay(ibcw_handle *genesis, const stored *kept, size_t count, ibcw_handle *ledgers, uint64_t *place, uint8_t *due, size_t *size)
+{
+    uint32_t found = IBCW_NO_MEMORY;
+    for (long n = 0; found == IBCW_NO_MEMORY; n++) {
+        ibcw_handle entries = entries_of(kept, count);
+        granted = n;
+        refused = 0;
+        found = ibcw_make_replayed(genesis, &entries, ledgers, place, due, IBCW_ANSWER_ROOM, size);
+        granted = -1;
+        want(found != IBCW_NO_MEMORY || refused, 1, "a replay: want of memory from within");
+        want(found != IBCW_NO_MEMORY || (*place == 77 && *size == 77), 1, "what isn't told for want of memory");
+        want(ibcw_free(&entries), IBCW_EMPTY, "entries that were given up");
+    }
+    return found;
+}
+
+/* An answer that isn't due, an event for a chain that isn't there, and a genesis that isn't allowed. */
+static void refuse_replays(world *w, const stored *kept, size_t count)
+{
+    static stored other[8];
+    ibcw_handle genesis = {0}, ledgers = {0};
+    uint8_t due[IBCW_ANSWER_ROOM];
+    uint64_t place = 77;
+    size_t size = 77;
+    memcpy(other, kept, count * sizeof *kept);
+    other[1].answer[1]--;
+    meet(replay(&w->genesis, other, count, &ledgers, &place, due, &size), IBCW_OTHER_ANSWER, "an answer that isn't due");
+    want(place == 1 && size == kept[1].answer_size && memcmp(due, kept[1].answer, size) == 0, 1, "what is due");
+    other[1] = kept[1];
+    other[count - 1].numbers.chain = 2;
+    place = size = 77;
+    meet(replay(&w->genesis, other, count, &ledgers, &place, due, &size), IBCW_UNKNOWN_CHAIN, "an event for a chain that isn't there");
+    want(place == count - 1 && size == 77, 1, "the place of an event for a chain that isn't there");
+    place = 77;
+    want(ibcw_make_genesis(&genesis, 8, 8), IBCW_DONE, "a genesis");
+    meet(replay(&genesis, kept, count, &ledgers, &place, due, &size), IBCW_BAD_MESSAGE, "a genesis with no chains");
+    want(place == 77 && size == 77, 1, "what isn't told of a genesis with no chains");
+    want(ibcw_free(&genesis), IBCW_DONE, "free");
+    want(ibcw_free(&ledgers), IBCW_EMPTY, "ledgers that weren't made");
+}
+
+/* The ledgers of a replay have the same entries, and go on. */
+static void want_again(ibcw_handle *ledgers, const stored *kept, size_t count)
+{
+    ibcw_handle chains[2] = {{0}, {0}};
+    static stored again;
+    uint64_t next[2] = {0, 0};
+    for (int k = 0; k < 2; k++) want(ibcw_take_ledger(ledgers, &chains[k]), IBCW_DONE, "a ledger of a replay");
+    for (size_t k = 0; k < count; k++) {
+        uint32_t chain = kept[k].numbers.chain;
+        memset(&again, 7, sizeof again);
+        want(store(&chains[chain], next[chain]++, MOST_EVENT, IBCW_ANSWER_ROOM, &again), IBCW_DONE, "an entry of a replay");
+        want((uint32_t)memcmp(&again, &kept[k], sizeof again), 0, "an entry of a replay");
+    }
+    for (int k = 0; k < 2; k++) {
+        want((uint32_t)length_of(&chains[k]), (uint32_t)next[k], "how many entries a ledger of a replay has");
+        end_block(&chains[k]);
+        want(ibcw_free(&chains[k]), IBCW_DONE, "free");
+    }
+}
+
+static void want_digest(const uint8_t *digest, const char *wanted)
+{
+    char hex[2 * IBCW_DIGEST_SIZE + 1];
+    for (int k = 0; k < IBCW_DIGEST_SIZE; k++) sprintf(hex + 2 * k, "%02x", digest[k]);
+    want((uint32_t)strcmp(hex, wanted), 0, "a digest of a journal");
+}
+
+/* The digests of a beginning and of an entry behind it. */
+static void digest_entries(void)
+{
+    static const uint8_t event[] = {1, 1}, reply[] = {1, 1, 0};
+    uint8_t first[IBCW_DIGEST_SIZE], next[IBCW_DIGEST_SIZE];
+    uint32_t found;
+    size_t size = 77;
+    want(ibcw_first_digest(bytes("{}"), 2, first, sizeof first, &size), IBCW_DONE, "the first digest");
+    want((uint32_t)size, IBCW_DIGEST_SIZE, "the size of the first digest");
+    want_digest(first, "a4f0b91f517f6c4b2f74346188fe6c2165394fa2c43b94da413f525f3ae2b7cb");
+    meet(ibcw_first_digest(bytes("{}"), 2, next, 31, &size), IBCW_TOO_SHORT, "the first digest with no room");
+    WITH_REFUSALS(found, ibcw_next_digest(first, sizeof first, 0, 1, 5, event, sizeof event, reply, sizeof reply, next, sizeof next, &size), "a digest");
+    want(found, IBCW_DONE, "a digest");
+    want_digest(next, "1f0683e33317dde7702de389cb669b4c68d289a84f7e2c2431fa181052985d8a");
+    size = 77;
+    meet(ibcw_next_digest(first, 31, 0, 1, 5, NULL, 0, NULL, 0, next, sizeof next, &size), IBCW_BAD_MESSAGE, "a digest behind none");
+    want((uint32_t)size, 77, "what isn't told of a digest behind none");
+    meet(ibcw_next_digest(first, 32, 0, 1, 5, NULL, 0, NULL, 0, NULL, 0, &size), IBCW_TOO_SHORT, "a digest with no room");
+    want((uint32_t)size, IBCW_DIGEST_SIZE, "the size of a digest");
+}
+
+/* What a journal keeps of two ledgers makes them again. */
+static void keep_entries(void)
+{
+    static text message;
+    static stored kept[5];
+    uint8_t due[IBCW_ANSWER_ROOM];
+    uint64_t place = 77;
+    size_t size = 77;
+    ibcw_handle ledgers = {0}, entries;
+    world w = begin_world(8, 8);
+    create_client(&message, 1);
+    answer(&w.x, &message, IBCW_DONE, "a client");
+    store_last(&w.x, &kept[0]);
+    create_client(&message, 0);
+    answer(&w.x, &message, IBCW_OWN_CHAIN, "a client of the chain itself");
+    store_last(&w.x, &kept[1]);
+    end_block(&w.y);
+    store_last(&w.y, &kept[2]);
+    update(&w.x, &w.y);
+    store_last(&w.x, &kept[3]);
+    end_block(&w.x);
+    store_last(&w.x, &kept[4]);
+    refuse_entries(&kept[0]);
+    refuse_replays(&w, kept, 5);
+    want(replay(&w.genesis, kept, 5, &ledgers, &place, due, &size), IBCW_DONE, "a replay");
+    want(place == 77 && size == 77, 1, "what isn't told of a replay");
+    meet(ibcw_join_ledger(&ledgers, &w.x), IBCW_OTHER_WORLD, "a ledger of the world before");
+    want_again(&ledgers, kept, 5);
+    want(ibcw_free(&ledgers), IBCW_DONE, "free");
+    entries = entries_of(kept, 5);
+    want(ibcw_make_numbered_replayed(&w.genesis, UINT64_MAX, &entries, &ledgers, &place, due, sizeof due, &size), IBCW_DONE, "a numbered replay");
+    want_again(&ledgers, kept, 5);
+    want(ibcw_free(&ledgers), IBCW_DONE, "free");
+    free_world(&w);
+}
+
 int main(void)
 {
     int count = 0;
@@ -1080,9 +1302,11 @@ int main(void)
     close_notes(&w);
     refuse_blocks();
     prove_heights();
+    keep_entries();
+    digest_entries();
     refuse_texts(&w);
     refuse_handles(&w);
-    for (int n = IBCW_NO_MEMORY; n <= IBCW_NO_DATA; n++) {
+    for (int n = IBCW_NO_MEMORY; n <= IBCW_OTHER_ANSWER; n++) {
         int is_number = n <= IBCW_PRUNED || n >= IBCW_EMPTY;
         if (is_number && n != IBCW_NUMBER_FULL) want((uint32_t)met[n], 1, "a number is met");
         count += met[n];

@@ -12,6 +12,13 @@
 #define ibcw_take_ledger(h, made) ibcw_take_ledger((ibcw_ledgers *)(void *)(h), (ibcw_ledger *)(void *)(made))
 #define ibcw_join_ledger(h, ledger) ibcw_join_ledger((ibcw_ledgers *)(void *)(h), (ibcw_ledger *)(void *)(ledger))
 #define ibcw_make_audit(h, made) ibcw_make_audit((ibcw_ledgers *)(void *)(h), (ibcw_audit *)(void *)(made))
+#define ibcw_make_entries(h) ibcw_make_entries((ibcw_entries *)(void *)(h))
+#define ibcw_add_entry(h, ...) ibcw_add_entry((ibcw_entries *)(void *)(h), __VA_ARGS__)
+#define ibcw_make_replayed(h, entries, made, ...) \
+    ibcw_make_replayed((ibcw_genesis *)(void *)(h), (ibcw_entries *)(void *)(entries), (ibcw_ledgers *)(void *)(made), __VA_ARGS__)
+#define ibcw_make_numbered_replayed(h, number, entries, made, ...) \
+    ibcw_make_numbered_replayed((ibcw_genesis *)(void *)(h), number, (ibcw_entries *)(void *)(entries), (ibcw_ledgers *)(void *)(made), __VA_ARGS__)
+#define ibcw_stored(h, ...) ibcw_stored((ibcw_ledger *)(void *)(h), __VA_ARGS__)
 #define ibcw_apply(h, ...) ibcw_apply((ibcw_ledger *)(void *)(h), __VA_ARGS__)
 #define ibcw_end_block(h, ...) ibcw_end_block((ibcw_ledger *)(void *)(h), __VA_ARGS__)
 #define ibcw_event(h, ...) ibcw_event((ibcw_ledger *)(void *)(h), __VA_ARGS__)

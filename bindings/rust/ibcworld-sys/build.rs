@@ -1,9 +1,10 @@
-//! Finds the library's archive: in the folder `IBCWORLD_LIB`, or by `pkg-config`.
+//! Finds the library's archive: in the folder `IBCWORLD_LIB`, or by `pkg-config`. With the feature `journal` that of the journal lies beside it.
 use std::env;
 use std::path::{Path, PathBuf};
 use std::process::Command;
 
 const ARCHIVE: &str = "libibcworld.a";
+const JOURNAL: &str = "libibcworld_journal.a";
 
 /// The folder that the variable names, which may be relative to the folder where cargo was called.
 fn named() -> Option<PathBuf> {
@@ -29,10 +30,29 @@ fn installed() -> Option<PathBuf> {
     folder.join(ARCHIVE).is_file().then_some(folder)
 }
 
+/// Links the journal's archive, which lies beside the other one, before what it calls.
+fn link_journal(folder: &Path) {
+    let archive = folder.join(JOURNAL);
+    assert!(
+        archive.is_file(),
+        "the feature `journal` needs {}, which tools/install makes where sqlite3's header is there (Debian: libsqlite3-dev)",
+        archive.display(),
+    );
+    println!("cargo:rerun-if-changed={}", archive.display());
+    println!("cargo:rustc-link-lib=static=ibcworld_journal");
+}
+
 fn link(folder: &Path) {
+    let has_journal = env::var_os("CARGO_FEATURE_JOURNAL").is_some();
     println!("cargo:rerun-if-changed={}", folder.join(ARCHIVE).display());
     println!("cargo:rustc-link-search=native={}", folder.display());
+    if has_journal {
+        link_journal(folder);
+    }
     println!("cargo:rustc-link-lib=static=ibcworld");
+    if has_journal {
+        println!("cargo:rustc-link-lib=sqlite3");
+    }
 }
 
 fn main() {

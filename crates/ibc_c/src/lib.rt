@@ -2,6 +2,7 @@
 //! calls one of them, and says again what it says. It answers a number: 0, or that of why it was refused.
 #![tactic(auto)]
 
+mod journals;
 mod light;
 mod notes;
 mod packets;

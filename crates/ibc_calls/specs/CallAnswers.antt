@@ -4,7 +4,7 @@ use Rattle.ibc_ids.specs.Refusals as core
 use Rattle.ibc_machine.specs.declared.reply.Reply.{Reply}
 use Rattle.ibc_machine.specs.declared.reply.Reply.TheVariants as reply
 use Rattle.ibc_calls.specs.declared.answer.Refused.{Refused}
-use Rattle.ibc_calls.specs.declared.answer.Refused.TheVariants.{Core, Empty, Full, OtherKind, TooShort, NothingThere, OtherWorld, NoMessage, NoData}
+use Rattle.ibc_calls.specs.declared.answer.Refused.TheVariants.{Core, Empty, Full, OtherKind, TooShort, NothingThere, OtherWorld, NoMessage, NoData, OtherAnswer}
 
 abbrev pub Answer : Type 0
 Answer = Result ⊤ Refused
@@ -20,6 +20,7 @@ number_of NothingThere = 105
 number_of OtherWorld = 106
 number_of NoMessage = 107
 number_of NoData = 108
+number_of OtherAnswer = 109
 
 -- 0 where nothing was refused
 abbrev pub answer_number : Answer → ℕ

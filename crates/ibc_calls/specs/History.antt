@@ -32,6 +32,7 @@ TellsLength (Some (held.Plan messages)) old new answer = (new ≡ length message
 TellsLength (Some (held.Balances list)) old new answer = (new ≡ length list.items) × (answer ≡ Ok tt)
 TellsLength (Some (held.Notes list)) old new answer = (new ≡ length list.items) × (answer ≡ Ok tt)
 TellsLength (Some (held.Audit audit)) old new answer = (new ≡ length audit.balances.items) × (answer ≡ Ok tt)
+TellsLength (Some (held.Entries list)) old new answer = (new ≡ length list.items) × (answer ≡ Ok tt)
 TellsLength (Some other) old new answer = (new ≡ old) × (answer ≡ Err OtherKind)
 
 -- ---- replies

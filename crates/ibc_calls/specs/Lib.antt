@@ -17,3 +17,6 @@ pub mod WorldHandles
 pub mod PacketReads
 pub mod TokenReads
 pub mod ChannelReads
+pub mod StoredEntries
+pub mod ReplayedLedgers
+pub mod JournalDigests

@@ -27,6 +27,8 @@ pub enum Refused {
     NoMessage,
     /// The bytes spell no data of tokens: 108.
     NoData,
+    /// Another answer is due than the stored one: 109.
+    OtherAnswer,
 }
 
 impl From<Refusal> for Refused {
@@ -54,6 +56,7 @@ pub fn number(answer: Result<(), Refused>) -> u32
         Err(Refused::OtherWorld) => 106,
         Err(Refused::NoMessage) => 107,
         Err(Refused::NoData) => 108,
+        Err(Refused::OtherAnswer) => 109,
     }
 }
 

@@ -37,7 +37,7 @@ pub struct EventCode {
 }
 
 /// Tells how many entries the history of a ledger has, how many messages a plan, how many holdings a list of balances, how many
-/// channels a list of notes, or how many chains an audit. Refused: `Empty`; `OtherKind`.
+/// channels a list of notes, how many chains an audit, or how many entries a journal's list. Refused: `Empty`; `OtherKind`.
 #[tactic(auto, unfolding(crate::specs::History::TellsLength))]
 pub fn length(alloc: Global, handle: &mut Handle, length: &mut u64) -> Result<(), Refused>
     ensures kept { handle.new.value ≡ handle.old.value }
@@ -76,6 +76,10 @@ fn length_of(held: &HandleValue, length: &mut u64) -> Result<(), Refused>
         }
         HandleValue::Audit(audit) => {
             *length = audit.balances.len() as u64;
+            Ok(())
+        }
+        HandleValue::Entries(list) => {
+            *length = list.len() as u64;
             Ok(())
         }
         _ => Err(Refused::OtherKind),

@@ -4,6 +4,7 @@
 
 mod answer;
 mod channel_totals;
+mod digests;
 mod events;
 mod evidence;
 mod forms;
@@ -18,13 +19,16 @@ mod packets;
 mod proofs;
 mod proving;
 mod reads;
+mod replayed;
 mod sent;
+mod stored;
 mod tokens;
 mod views;
 mod worlds;
 
 pub use answer::{Refused, number};
 pub use channel_totals::{ChannelTotals, totals};
+pub use digests::{first_digest, next_digest};
 pub use events::{apply, end_block};
 pub use evidence::{message_proof, proof_key, proof_value};
 pub use forms::{proof_of_ics23, proof_to_ics23};
@@ -39,7 +43,9 @@ pub use packets::{PacketNumbers, message_ack, message_packet, packet_numbers, pa
 pub use proofs::{ProofKind, key_of, kind_of, show_absent, show_present, value_of};
 pub use proving::prove;
 pub use reads::{Amount, balance, escrow, plan_message, query, supply};
+pub use replayed::make_replayed;
 pub use sent::{sent_packet, written_ack};
+pub use stored::{EntryNumbers, add_entry, history_stored, make_entries};
 pub use tokens::{data_count, data_part, data_token};
 pub use views::{
     ViewHeights, make_plan, make_view, share_view, view_heights, view_proof, view_root,

@@ -74,7 +74,7 @@ held_send = variants_send Held.enum (
           (search (sendable, crosses, message.the_send) depth 20, tt),
           (
             (search (sendable, crosses, account.the_send, denom_send) depth 20, tt),
-            ((search (sendable, crosses, bytes.the_send, channel_send) depth 20, tt), ((audit_send, tt), tt)),
+            ((search (sendable, crosses, bytes.the_send, channel_send) depth 20, tt), ((audit_send, tt), ((search (sendable, crosses, entry.the_send) depth 20, tt), tt))),
           ),
         ),
       ),

@@ -7,7 +7,7 @@ ghost use Rattle.ibc_handle.specs.declared.handle_value.HandleValue.TheVariants 
 use crate::{NotJoined, WorldLedgers};
 use ibc_ids::{Account, Bytes, ChannelId, Denom};
 use ibc_ledger::{Ledger, View};
-use ibc_machine::Genesis;
+use ibc_machine::{Entry, Genesis};
 use ibc_wire::Message;
 use ibc_world_core::Audit;
 use std::alloc::Global;
@@ -40,6 +40,8 @@ pub enum HandleValue {
     Notes(Vec<(ChannelId, Vec<Bytes>)>),
     /// What the ledgers of a world hold.
     Audit(Audit),
+    /// What a journal keeps of a world, in its order.
+    Entries(Vec<Entry>),
 }
 
 impl HandleValue {

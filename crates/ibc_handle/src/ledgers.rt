@@ -60,11 +60,19 @@ impl WorldLedgers {
         ensures err { IfErr result (λ refusal. (refusal ≡ BadMessage) ⊎ (refusal ≡ NoMemory)) }
     {
         match World::new(alloc, genesis) {
-            Ok(world) => Ok(WorldLedgers {
-                number,
-                ledgers: world.into_ledgers(),
-            }),
+            Ok(world) => Ok(WorldLedgers::of_world(world, number)),
             Err(refusal) => Err(refusal),
+        }
+    }
+
+    /// The ledgers of a world, by the numbers of their chains, under the number that its owner gave it.
+    pub fn of_world(world: World, number: u64) -> WorldLedgers
+        ensures number { result.number ≡ number }
+        ensures ledgers { ledgers_alone result.ledgers ≡ world.ledgers }
+    {
+        WorldLedgers {
+            number,
+            ledgers: world.into_ledgers(),
         }
     }
 

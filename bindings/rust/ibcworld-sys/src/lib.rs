@@ -6,6 +6,9 @@
 // (what a call says stands here in the words of the header, without marks)
 #![allow(clippy::doc_markdown)]
 
+#[cfg(feature = "journal")]
+pub mod journal;
+
 /// The version of the header for which this crate is written: 10,000 times the first number, 100 times the second, and the third.
 pub const VERSION: u32 = 10_000;
 
@@ -77,6 +80,16 @@ pub struct Heights {
     pub working_time: u64,
 }
 
+/// What a journal keeps of an entry beside its bytes.
+#[repr(C)]
+#[derive(Clone, Copy, Debug, Default)]
+pub struct EntryNumbers {
+    /// The number of the chain, from 0 on.
+    pub chain: u32,
+    /// 0 the end of a block, 1 a message.
+    pub kind: u32,
+}
+
 /// The sequence and the timeouts of a packet. A timeout of 0 is none.
 #[repr(C)]
 #[derive(Clone, Copy, Debug, Default)]
@@ -139,8 +152,8 @@ extern "C" {
     /// Frees what a handle holds, and leaves it empty. IBCW_EMPTY.
     pub fn ibcw_free(handle: *mut Handle) -> u32;
     /// Tells how many entries a ledger's history has, messages a plan, holdings a list of balances, channels a list
-    /// of notes, or chains an audit. For one chain of an audit there are ibcw_holding_count and
-    /// ibcw_note_channel_count. IBCW_EMPTY, IBCW_OTHER_KIND.
+    /// of notes, chains an audit, or entries a journal's list. For one chain of an audit there are ibcw_holding_count
+    /// and ibcw_note_channel_count. IBCW_EMPTY, IBCW_OTHER_KIND.
     pub fn ibcw_length(handle: *mut Handle, count: *mut u64) -> u32;
     /// Applies the message that the bytes spell to the working block, and tells its reply. The answer is the reply's
     /// number: 0, or that of the refusal. The reply is told: its kind and its number as *told, and how many bytes it
@@ -377,6 +390,91 @@ extern "C" {
         plan: *mut Handle,
         index: u64,
         message: *mut u8,
+        room: usize,
+        size: *mut usize,
+    ) -> u32;
+    /// Tells what a journal keeps of an entry of the history, which are numbered from 0. Writes the bytes of the
+    /// event, and those of the answer: the reply, and behind it what an update of a client read. IBCW_EMPTY,
+    /// IBCW_OTHER_KIND, IBCW_NOTHING_THERE; IBCW_TOO_SHORT where one of the two places is too short. Then *numbers and
+    /// both sizes are told, and the other place is written where it has room. IBCW_ANSWER_ROOM, 1,029, is always
+    /// enough for the answer.
+    pub fn ibcw_stored(
+        ledger: *mut Handle,
+        index: u64,
+        numbers: *mut EntryNumbers,
+        event: *mut u8,
+        event_room: usize,
+        event_size: *mut usize,
+        answer: *mut u8,
+        answer_room: usize,
+        answer_size: *mut usize,
+    ) -> u32;
+    /// Makes a list with no entries in an empty handle. IBCW_FULL.
+    pub fn ibcw_make_entries(entries: *mut Handle) -> u32;
+    /// Adds the entry of which a journal keeps this, behind the others: the one of which ibcw_stored tells it.
+    /// IBCW_EMPTY, IBCW_OTHER_KIND; IBCW_BAD_MESSAGE exactly where this is kept of no entry. Nothing is kept of two
+    /// entries.
+    pub fn ibcw_add_entry(
+        entries: *mut Handle,
+        chain: u32,
+        kind: u32,
+        event: *const u8,
+        event_size: usize,
+        answer: *const u8,
+        answer_size: usize,
+    ) -> u32;
+    /// Makes all ledgers of a genesis in an empty handle, as they stand behind these entries: a world of its own, as by
+    /// ibcw_make_ledgers. Its ledgers are asked again for each event, and each answer is compared with the stored one.
+    /// Where the answer is 0, the entries are exactly what its ledgers keep, in their order. The genesis stays.
+    /// IBCW_FULL of the ledgers; IBCW_EMPTY and IBCW_OTHER_KIND of the genesis, and then of the entries: then the
+    /// entries stay. Whatever else is answered, their handle is empty then: so none is copied. IBCW_BAD_MESSAGE exactly
+    /// where no world begins so. IBCW_OTHER_ANSWER where an entry has another answer than is due, and all before it
+    /// have the one that is. *place counts it from 0, and what is due is told as ibcw_stored would: *size bytes, which
+    /// are written where there is room. IBCW_ANSWER_ROOM is always enough. IBCW_UNKNOWN_CHAIN where it is an event for
+    /// a chain that the genesis hasn't: then *place alone is told.
+    pub fn ibcw_make_replayed(
+        genesis: *mut Handle,
+        entries: *mut Handle,
+        ledgers: *mut Handle,
+        place: *mut u64,
+        due: *mut u8,
+        room: usize,
+        size: *mut usize,
+    ) -> u32;
+    /// The same under a number by which the caller tells worlds apart, as for ibcw_make_numbered_ledgers.
+    pub fn ibcw_make_numbered_replayed(
+        genesis: *mut Handle,
+        world: u64,
+        entries: *mut Handle,
+        ledgers: *mut Handle,
+        place: *mut u64,
+        due: *mut u8,
+        room: usize,
+        size: *mut usize,
+    ) -> u32;
+    /// Writes the digest of a journal's beginning, 32 bytes: SHA-256 of the number of the format, which is 1, and of
+    /// the genesis' text as the journal has it. IBCW_TOO_SHORT.
+    pub fn ibcw_first_digest(
+        genesis: *const u8,
+        genesis_size: usize,
+        digest: *mut u8,
+        room: usize,
+        size: *mut usize,
+    ) -> u32;
+    /// Writes the digest of an entry behind one with the digest `before`, or behind the beginning, 32 bytes. The event
+    /// came by the place `log_place` of a log, or by none where that is 0. IBCW_BAD_MESSAGE exactly where `before`
+    /// hasn't 32 bytes, IBCW_TOO_SHORT.
+    pub fn ibcw_next_digest(
+        before: *const u8,
+        before_size: usize,
+        chain: u32,
+        kind: u32,
+        log_place: u32,
+        event: *const u8,
+        event_size: usize,
+        answer: *const u8,
+        answer_size: usize,
+        digest: *mut u8,
         room: usize,
         size: *mut usize,
     ) -> u32;

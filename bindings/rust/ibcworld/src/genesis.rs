@@ -6,7 +6,7 @@ use ibcworld_sys as sys;
 /// How a world begins: its chains, in the order of their numbers, and what users hold there.
 #[derive(Debug)]
 pub struct Genesis {
-    owned: Owned,
+    pub(crate) owned: Owned,
 }
 
 impl Genesis {

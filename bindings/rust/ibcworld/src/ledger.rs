@@ -36,6 +36,7 @@ pub struct Totals {
 /// # Ok::<(), Refused>(())
 /// ```
 #[derive(Debug)]
+#[repr(transparent)]
 pub struct Ledger {
     pub(crate) owned: Owned,
 }

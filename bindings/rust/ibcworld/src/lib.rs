@@ -10,6 +10,8 @@
 mod genesis;
 mod history;
 mod ics23;
+#[cfg(feature = "journal")]
+mod journal;
 mod ledger;
 mod lists;
 mod message;
@@ -19,6 +21,7 @@ mod proof;
 mod refused;
 mod relay;
 mod replay;
+mod stored;
 mod tokens;
 mod view;
 mod wire;
@@ -26,6 +29,8 @@ mod world;
 
 pub use genesis::Genesis;
 pub use history::{Effect, Entry, Event, History};
+#[cfg(feature = "journal")]
+pub use journal::{FaultKind, Journal, JournalEnd, JournalFault};
 pub use ledger::{Ledger, Totals};
 pub use lists::{Account, ChannelNotes, Holding};
 pub use message::{
@@ -39,6 +44,7 @@ pub use proof::{Claim, Proof};
 pub use refused::Refused;
 pub use relay::{open, relay, Opened, Opening, Relayed};
 pub use replay::{replay, NotReplayed};
+pub use stored::{first_digest, Digest, Entries, Stored};
 pub use tokens::TokenData;
 pub use view::{Heights, Plan, View};
 pub use world::{Audit, NotJoined, World};

@@ -6,7 +6,8 @@ use std::fmt;
 use std::ptr::null_mut;
 
 /// A value of the library, which is freed with it. The cell keeps it from being `Sync`: a handle is used by one call at a time, also where the
-/// call only reads.
+/// call only reads. It is laid out as the handle, of which a journal keeps several beside one another.
+#[repr(transparent)]
 pub(crate) struct Owned {
     handle: UnsafeCell<sys::Handle>,
 }

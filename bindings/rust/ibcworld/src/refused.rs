@@ -77,6 +77,7 @@ refusals! {
     OtherWorld = 106, "the ledger is of another world";
     NoMessage = 107, "the bytes spell no message";
     NoData = 108, "the bytes spell no data of tokens";
+    OtherAnswer = 109, "another answer is due than the stored one";
 }
 
 impl Refused {

@@ -22,6 +22,19 @@ pub enum NotReplayed {
     },
     /// The histories are none of one world: each chain's next entry waits for one of another chain.
     NoOrder,
+    /// What a journal keeps before this place, counted from 0, is as it is due, and at it another answer is.
+    OtherAnswer {
+        /// The place.
+        place: u64,
+        /// What a journal would keep of the answer that is due.
+        due: Vec<u8>,
+    },
+    /// What a journal keeps before this place, counted from 0, is as it is due, and at it stands an event for a chain that the genesis
+    /// doesn't have.
+    NoChain {
+        /// The place.
+        place: u64,
+    },
 }
 
 impl fmt::Display for NotReplayed {
@@ -33,6 +46,12 @@ impl fmt::Display for NotReplayed {
                 write!(f, "entry {index} of chain {chain} is answered otherwise")
             }
             NotReplayed::NoOrder => f.write_str("the histories are none of one world"),
+            NotReplayed::OtherAnswer { place, .. } => {
+                write!(f, "another answer is due at place {place}")
+            }
+            NotReplayed::NoChain { place } => {
+                write!(f, "there is no such chain at place {place}")
+            }
         }
     }
 }

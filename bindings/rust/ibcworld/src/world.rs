@@ -74,7 +74,7 @@ impl World {
 /// What the ledgers of a world hold.
 #[derive(Debug)]
 pub struct Audit {
-    owned: Owned,
+    pub(crate) owned: Owned,
 }
 
 impl Audit {

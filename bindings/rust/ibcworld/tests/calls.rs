@@ -1,10 +1,11 @@
 //! What the crate adds to the library's calls.
 use ibcworld::{
-    open, relay, replay, version, Account, AckPacket, ChanCloseConfirm, ChanCloseInit, ChanOpenAck,
-    ChanOpenConfirm, ChanOpenInit, ChanOpenTry, ClaimedClient, ConnOpenAck, ConnOpenConfirm,
-    ConnOpenInit, ConnOpenTry, CreateClient, Effect, Entry, Event, Genesis, Header, Ledger,
-    Message, NotReplayed, Opening, Order, Packet, RecvPacket, Refused, Relayed, SendNote, Timeout,
-    TimeoutOnClose, Token, TokenData, Transfer, TransferMany, UpdateClient, View, World,
+    first_digest, open, relay, replay, version, Account, AckPacket, ChanCloseConfirm,
+    ChanCloseInit, ChanOpenAck, ChanOpenConfirm, ChanOpenInit, ChanOpenTry, ClaimedClient,
+    ConnOpenAck, ConnOpenConfirm, ConnOpenInit, ConnOpenTry, CreateClient, Effect, Entries, Entry,
+    Event, Genesis, Header, Ledger, Message, NotReplayed, Opening, Order, Packet, RecvPacket,
+    Refused, Relayed, SendNote, Stored, Timeout, TimeoutOnClose, Token, TokenData, Transfer,
+    TransferMany, UpdateClient, View, World,
 };
 
 const TIME: u64 = 100;
@@ -30,7 +31,7 @@ fn transfer(amount: u128) -> Transfer {
 
 #[test]
 fn each_refusal_has_a_number_a_name_and_a_sentence() {
-    assert_eq!(Refused::ALL.len(), 39);
+    assert_eq!(Refused::ALL.len(), 40);
     for refused in Refused::ALL {
         assert_eq!(Refused::try_from(u32::from(*refused)), Ok(*refused));
         assert!(refused
@@ -51,6 +52,7 @@ fn values_go_to_threads_and_print() {
     sent::<Ledger>();
     sent::<ibcworld::Audit>();
     sent::<ibcworld::Plan>();
+    sent::<Entries>();
     shared::<View>();
     shared::<Message>();
     assert_eq!(version() / 10_000, 1);
@@ -654,5 +656,143 @@ fn a_history_that_is_another_is_told() -> Result<(), NotReplayed> {
         replay(&genesis, &other),
         Err(NotReplayed::NoOrder)
     ));
+    Ok(())
+}
+
+/// The last entry of a ledger, as a journal keeps it.
+fn last_of(ledger: &Ledger) -> Result<Stored, Refused> {
+    let count = ledger.history()?.len() as u64;
+    assert_eq!(ledger.stored(count)?, None);
+    Ok(ledger.stored(count - 1)?.expect("an entry"))
+}
+
+/// Two ledgers, and what a journal keeps of them in the order in which they were asked: an update that looked at the other chain, blocks, and
+/// what was refused.
+fn run_of_a_journal() -> Result<(Genesis, [Ledger; 2], Vec<Stored>), Refused> {
+    let mut genesis = Genesis::new(64, 64)?;
+    genesis.add_chain(TIME)?;
+    genesis.add_chain(TIME)?;
+    let mut world = genesis.world()?;
+    let mut x = world.take()?.expect("two chains");
+    let mut y = world.take()?.expect("two chains");
+    let mut kept = Vec::new();
+    x.apply(CreateClient { chain: 1 })?;
+    kept.push(last_of(&x)?);
+    assert_eq!(x.apply(CreateClient { chain: 0 }), Err(Refused::OwnChain));
+    kept.push(last_of(&x)?);
+    let Effect::Block { root, .. } = y.end_block(TIME + 1)? else {
+        panic!("no block");
+    };
+    kept.push(last_of(&y)?);
+    x.apply(UpdateClient {
+        client: "inprocess-0".into(),
+        header: Header {
+            chain: 1,
+            height: 1,
+            time: TIME,
+            root,
+        },
+    })?;
+    kept.push(last_of(&x)?);
+    x.end_block(TIME + 2)?;
+    kept.push(last_of(&x)?);
+    Ok((genesis, [x, y], kept))
+}
+
+fn entries_of(kept: &[Stored]) -> Result<Entries, Refused> {
+    let mut entries = Entries::new()?;
+    for stored in kept {
+        entries.add(stored)?;
+    }
+    assert_eq!(entries.count()?, kept.len() as u64);
+    Ok(entries)
+}
+
+#[test]
+fn a_world_is_made_again_of_a_journal() -> Result<(), NotReplayed> {
+    let (genesis, ledgers, kept) = run_of_a_journal()?;
+    assert_eq!((kept[2].chain, kept[2].kind), (1, 0));
+    assert_eq!(kept[2].event, (TIME + 1).to_be_bytes());
+    assert_eq!((kept[0].chain, kept[0].kind), (0, 1));
+    assert_eq!(kept[0].event, [1, 1]);
+    assert_eq!(kept[1].answer, [2, 4, 0]);
+    assert_eq!(kept[3].answer, [1, 1, 1, 0, 0, 0, 0, 0, 0, 0, 1, 2]);
+    let mut again = World::replayed(&genesis, entries_of(&kept)?)?;
+    for ledger in ledgers {
+        let mut other = again.take()?.expect("two chains");
+        assert_eq!(history(&other)?, history(&ledger)?);
+        assert!(other.totals(&ledger, "channel-0", "atom") == Err(Refused::OtherWorld));
+        other.end_block(TIME + 3)?;
+    }
+    Ok(())
+}
+
+#[test]
+fn another_answer_of_a_journal_is_told() -> Result<(), NotReplayed> {
+    let (genesis, _ledgers, kept) = run_of_a_journal()?;
+    for place in [1, 3] {
+        let mut other = kept.clone();
+        let last = other[place].answer.len() - 1;
+        let changed = if place == 1 { 1 } else { last };
+        other[place].answer[changed] -= 1;
+        match World::replayed(&genesis, entries_of(&other)?) {
+            Err(NotReplayed::OtherAnswer { place: at, due }) => {
+                assert_eq!((at, due), (place as u64, kept[place].answer.clone()));
+            }
+            not => panic!("{not:?}"),
+        }
+    }
+    let mut other = kept.clone();
+    other[4].chain = 7;
+    assert!(matches!(
+        World::replayed(&genesis, entries_of(&other)?),
+        Err(NotReplayed::NoChain { place: 4 })
+    ));
+    let none = Genesis::new(64, 64)?;
+    assert!(matches!(
+        World::replayed(&none, entries_of(&kept)?),
+        Err(NotReplayed::Refused(Refused::BadMessage))
+    ));
+    Ok(())
+}
+
+#[test]
+fn what_is_kept_of_no_entry_is_refused() -> Result<(), Refused> {
+    let (_genesis, _ledgers, kept) = run_of_a_journal()?;
+    let changes: [fn(&mut Stored); 5] = [
+        |it| it.chain = 256,
+        |it| it.kind = 2,
+        |it| it.event.push(0),
+        |it| it.answer.push(0),
+        |it| it.answer.clear(),
+    ];
+    let mut entries = Entries::new()?;
+    for change in changes {
+        let mut other = kept[0].clone();
+        change(&mut other);
+        assert_eq!(entries.add(&other), Err(Refused::BadMessage));
+    }
+    assert_eq!(entries.count()?, 0);
+    Ok(())
+}
+
+#[test]
+fn digests_are_those_of_a_journal() -> Result<(), Refused> {
+    let hex = |digest: [u8; 32]| digest.map(|byte| format!("{byte:02x}")).concat();
+    let first = first_digest(b"{}")?;
+    assert_eq!(
+        hex(first),
+        "a4f0b91f517f6c4b2f74346188fe6c2165394fa2c43b94da413f525f3ae2b7cb"
+    );
+    let stored = Stored {
+        chain: 0,
+        kind: 1,
+        event: vec![1, 1],
+        answer: vec![1, 1, 0],
+    };
+    assert_eq!(
+        hex(stored.digest_behind(&first, 5)?),
+        "1f0683e33317dde7702de389cb669b4c68d289a84f7e2c2431fa181052985d8a"
+    );
     Ok(())
 }
