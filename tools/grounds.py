@@ -16,8 +16,8 @@ PIECE = re.compile(r"\w+|&&|\|\||->|=>|::|\.\.=?|<<=?|>>=?|[-+*/%^&|=!<>]=|.", r
 PATH = re.compile(r"[A-Za-z_]\w*(?:\s*::\s*[A-Za-z_]\w*)*")
 # Functions that call each other have this attribute. Whether these end is seen in their bodies alone.
 CYCLE = re.compile(r"\bcycle\s*\(")
-# A `use` among the statements of a body.
-USE = re.compile(r"\buse \w")
+# A `use` among the statements of a body, and what a closure's clauses begin with.
+USE, CLAUSE = re.compile(r"\buse \w"), re.compile(r"\b(?:requires|ensures|ghost)\b")
 
 
 def words_of(text):
@@ -36,11 +36,10 @@ def bare(code, start, end):
 
 
 def text_of(function):
-    """A function as it stands, with the head of what it is in: without comments, layout and labels of clauses."""
+    """A function as it stands but for its clauses, with the head of what it is in: without comments and layout."""
     it, around = function.item, function.around
     head = [] if around is it else [bare(it.code, *around.head)]
-    clauses = [f"{word} {' '.join(clause.split())}" for word, _, clause, _ in it.clauses]
-    return "\n".join([*head, " ".join(it.attributes.split()), bare(it.code, *it.head), *clauses, bare(it.code, *it.body)])
+    return "\n".join([*head, " ".join(it.attributes.split()), bare(it.code, *it.head), bare(it.code, *it.body)])
 
 
 class Grounds:
@@ -104,7 +103,8 @@ class Grounds:
         if not function or not self.is_sure(function, text):
             return None
         words, meanings = words_of(text), self.meanings(function.around, text)
-        roots = {it for _, meaning in meanings for it in self.promises.parts_of(meaning)} | self.promises.named_by(words, self.crate, self.crates)
+        roots = {it for _, meaning in meanings for it in self.promises.parts_of(meaning)}
+        roots |= self.promises.named_by(words, self.crate, self.crates, not CLAUSE.search(text))
         roots |= {trait for trait, names in self.traits_in(function.around.module).items() if names & words}
         found = self.promises.reached(roots | {function.part} & self.promises.sums.keys(), words, self.crate, self.crates)
         if found & self.promises.unsure:

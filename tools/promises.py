@@ -1,13 +1,11 @@
 """What crates state, in parts: a definition; a function; a type with its fields and what its crate implements for it; a method; a trait; and what another
-crate implements for a type. A part is the lines that tools/frozen prints, private things too, and it names others. Of a body, a proof, a comment or a
-layout it knows nothing."""
+crate implements for a type. A part is the lines that tools/frozen prints, private things too, and it names others. Words that abbreviate are replaced by what
+they mean, and parameters and bound names by numbers. Of a body, a proof, a comment or a layout it knows nothing."""
 import hashlib
-import os
-import runpy
+import re
 
 import parts
-
-frozen = runpy.run_path(os.path.join(os.path.dirname(os.path.abspath(__file__)), "frozen"), run_name="frozen")
+from unfolding import Words, frozen, numbered
 
 
 class Promises(frozen["Printer"]):
@@ -21,7 +19,7 @@ class Promises(frozen["Printer"]):
         self.open = {it.id for it in self.tree.items.values() if it.reached}
         for it in self.tree.items.values():
             it.reached = True
-        self.methods, self.foreign, self.by_word = self.methods_of_types(), {}, {}
+        self.methods, self.foreign, self.by_word, self.words = self.methods_of_types(), {}, {}, Words(self)
         self.gather()
 
     # ---- reading
@@ -67,12 +65,14 @@ class Promises(frozen["Printer"]):
             self.unknown_of[part] = words
 
     def add(self, reader, tokens, indent="", field=None):
-        super().add(reader, tokens, indent, field)
-        for it in reader.cited:
+        """One line of a part, and the parts that it names."""
+        tokens = frozen["bare"](self.words.unfolded(tokens)) if isinstance(tokens, list) else [tokens]
+        for it in {it for token in tokens for it in re.findall("\0([^\0]*)\0", token)}:
             found = self.parts_of(it)
             self.cites.update(found)
             if not found and "." in it and it.partition(".")[0] in self.tree.crates:
                 self.lost_in.add(it)
+        self.lines.append((indent + " ".join(numbered(tokens, reader.fixed)), field))
 
     def parts_of(self, name):
         """The parts that an id is of: a definition, an item, and a method of it."""
@@ -143,9 +143,10 @@ class Promises(frozen["Printer"]):
 
     # ---- what names lead to
 
-    def named_by(self, words, own, crates):
-        """What has one of these words as its name, as far as a crate can name it: all of its own, and what is public of the others."""
-        found = {it for word in words for it in self.by_word.get(word, ())}
+    def named_by(self, words, own, crates, is_code=False):
+        """What has one of these words as its name, as far as a crate can name it: all of its own, and what is public of the others. Code names no
+        definition."""
+        found = {it for word in words for it in self.by_word.get(word, ()) if not (is_code and it in self.tree.antt)}
         return {it for it in found if it.partition(".")[0] == own or it.partition(".")[0] in crates and (it in self.tree.antt or it in self.open)}
 
     def reached(self, roots, words, own, crates):
