@@ -42,6 +42,14 @@ def text_of(function):
     return "\n".join([*head, " ".join(it.attributes.split()), bare(it.code, *it.head), bare(it.code, *it.body)])
 
 
+def text_with(edit):
+    """The body that an edit makes of a function's."""
+    start, end = edit.function.body
+    new = edit.texts[edit.path]
+    code = parts.Code(edit.path, new[start : end + len(new) - len(edit.old)])
+    return bare(code, 0, len(code.text))
+
+
 class Grounds:
     """What refusals rest on in one crate."""
 
@@ -99,7 +107,7 @@ class Grounds:
     def of_edit(self, edit):
         """What the refusal of an edit in one function rests on, in its crate and in those below it; or None where that isn't certain."""
         function = edit.function and self.functions.get((f"crates/{self.crate}/{edit.path}", edit.function.body[0] - 1))
-        text = function and f"{text_of(function)}\n{edit.text}"
+        text = function and f"{text_of(function)}\n{text_with(edit)}"
         if not function or not self.is_sure(function, text):
             return None
         words, meanings = words_of(text), self.meanings(function.around, text)

@@ -19,10 +19,24 @@ class Promises(frozen["Printer"]):
         self.open = {it.id for it in self.tree.items.values() if it.reached}
         for it in self.tree.items.values():
             it.reached = True
+        self.impls = self.impls_of_types()
         self.methods, self.foreign, self.by_word, self.words = self.methods_of_types(), {}, {}, Words(self)
         self.gather()
 
     # ---- reading
+
+    def impls_of_types(self):
+        """What is implemented for each type, under the type itself where an alias names it."""
+        found = {}
+        for block in self.tree.impls:
+            while self.is_alias(block.target_id):
+                it = self.tree.items[block.target_id]
+                block.target_id = self.tree.rust_id(it.crate, it.module, parts.head_path(it.text().partition("=")[2]))
+            found.setdefault(block.target_id, []).append(block)
+        return found
+
+    def is_alias(self, name):
+        return name in self.tree.items and self.tree.items[name].kind == "type"
 
     def methods_of_types(self):
         """Of each type its methods by name, each with the blocks that it stands in."""
@@ -121,19 +135,24 @@ class Promises(frozen["Printer"]):
         for one in block.items:
             if one.kind == "const" or one.kind == "type" and block is not it:
                 reader = frozen["Reader"](self, name)
-                self.add(reader, reader.code(one.text(), it), "    ")
+                self.add(reader, reader.code(one.text(), block), "    ")
 
     def foreign_blocks(self):
-        """What a crate implements for a type of another, or for a type of no crate: under each type and trait that its head names."""
+        """What a crate implements for a type of another, or for a type of no crate: then under each type and trait that its head names."""
         found = {}
-        for one in self.tree.impls:
-            it = self.tree.items.get(one.target_id)
-            if it is None or it.crate != one.crate:
-                reader = frozen["Reader"](self, one.target_id)
-                reader.code(one.text(), one)
-                for name in {self.tree.owner(it) for it in reader.cited} - {None} if it is None else [one.target_id]:
-                    found.setdefault((name, one.crate), []).append(one)
-        return [(name, crate, blocks) for (name, crate), blocks in found.items() if name in self.tree.items]
+        for block in self.tree.impls:
+            it = self.tree.items.get(block.target_id)
+            if it is None or it.crate != block.crate:
+                for name in self.named_in_head(block) if it is None else [block.target_id]:
+                    found.setdefault((name, block.crate), []).append(block)
+        return [(name, crate, blocks) for (name, crate), blocks in found.items()]
+
+    def named_in_head(self, block):
+        """The items that the head of a block names, by aliases too."""
+        reader = frozen["Reader"](self, block.target_id)
+        reader.code(block.text(), block)
+        found = {self.tree.owner(it) for it in reader.cited}
+        return (found | {more for it in found if self.is_alias(it) for more in self.named[it]}) & self.tree.items.keys()
 
     def foreign_part(self, name, found):
         blocks = []
