@@ -36,10 +36,10 @@ def bare(code, start, end):
 
 
 def text_of(function):
-    """A function as it stands but for its clauses, with the head of what it is in: without comments and layout."""
+    """A function as it stands but for its clauses and attributes, with the head of what it is in: without comments and layout."""
     it, around = function.item, function.around
     head = [] if around is it else [bare(it.code, *around.head)]
-    return "\n".join([*head, " ".join(it.attributes.split()), bare(it.code, *it.head), bare(it.code, *it.body)])
+    return "\n".join([*head, bare(it.code, *it.head), bare(it.code, *it.body)])
 
 
 def text_with(edit):
@@ -71,16 +71,16 @@ class Grounds:
                     yield Function(it, block, block.target_id if block.of else f"{block.target_id}.{it.name}")
 
     def meanings(self, around, text):
-        """The names in a text that have a meaning where a function stands, each with that meaning."""
+        """The names in a text that have a meaning where a function stands, each with that meaning. Code names no definition, but for a closure's clauses."""
         names, found = self.tree.modules.get((self.crate, around.module), {}), set()
         for path in PATH.findall(text):
             comps = re.split(r"\s*::\s*", path)
             if comps[0] in names or comps[0] in ("crate", "self", "super") or (comps[0], ()) in self.tree.modules:
                 found.add(("::".join(comps), self.tree.rust_id(self.crate, around.module, comps)))
-        words, scope = words_of(text), self.promises.scope(around)
-        for word in words & names.keys():
+        for word in words_of(text) & names.keys():
             found.update((word, self.meaning(around.module, *one)) for one in names[word])
-        for word in words:
+        scope = self.promises.scope(around) if CLAUSE.search(text) else {}
+        for word in words_of(text) if scope else ():
             found.update((it, self.tree.canonical(scope[it])) for it in (word, f"◌{word}◌", f"{word}◌", f"◌{word}") if it in scope)
         return found
 
@@ -89,6 +89,11 @@ class Grounds:
         if sort == "item":
             return what.id
         return ".".join([self.crate, *what]) if sort == "mod" else self.tree.rust_id(self.crate, module, what)
+
+    def is_known(self, meaning):
+        """Whether a name of this meaning leads to a part, or is one of a module, a file or another library."""
+        crate, *module = meaning.split(".")
+        return crate not in self.tree.crates or bool(self.promises.parts_of(meaning)) or (crate, tuple(module)) in self.tree.modules or meaning in self.tree.scopes
 
     def traits_in(self, module):
         """The traits that a module names, each with the names of its functions."""
@@ -100,9 +105,17 @@ class Grounds:
         return self.traits[module]
 
     def is_sure(self, function, text):
-        """Whether all names in a function with this text have a known meaning, and whether its end rests on no other body."""
+        """Whether no name in a function with this text can be brought from where that isn't seen, and whether its end rests on no other body."""
         names = self.tree.modules.get((self.crate, function.around.module), {})
         return not ("*" in names or USE.search(text) or CYCLE.search(function.item.attributes))
+
+    def roots(self, function, text, meanings):
+        """The parts that the names in a function with this text lead to first."""
+        found, words = {it for _, meaning in meanings for it in self.promises.parts_of(meaning)}, words_of(text)
+        if CLAUSE.search(text):
+            found |= self.promises.named_by(words, self.crate, self.crates)
+        found |= {trait for trait, names in self.traits_in(function.around.module).items() if names & words}
+        return found | {function.part} & self.promises.sums.keys()
 
     def of_edit(self, edit):
         """What the refusal of an edit in one function rests on, in its crate and in those below it; or None where that isn't certain."""
@@ -110,13 +123,11 @@ class Grounds:
         text = function and f"{text_of(function)}\n{text_with(edit)}"
         if not function or not self.is_sure(function, text):
             return None
-        words, meanings = words_of(text), self.meanings(function.around, text)
-        roots = {it for _, meaning in meanings for it in self.promises.parts_of(meaning)}
-        roots |= self.promises.named_by(words, self.crate, self.crates, not CLAUSE.search(text))
-        roots |= {trait for trait, names in self.traits_in(function.around.module).items() if names & words}
-        found = self.promises.reached(roots | {function.part} & self.promises.sums.keys(), words, self.crate, self.crates)
-        if found & self.promises.unsure:
+        meanings = self.meanings(function.around, text)
+        found = self.promises.reached(self.roots(function, text, meanings), words_of(text), self.crate, self.crates)
+        if found & self.promises.unsure or not all(self.is_known(meaning) for _, meaning in meanings):
             return None
         inside = {it for it in found if it.partition(".")[0] == self.crate}
-        told = [text_of(function), *sorted(f"{name} means {meaning}" for name, meaning in meanings), self.promises.sum_of(inside)]
+        stands = f"{' '.join(function.item.attributes.split())}\n{text_of(function)}"
+        told = [stands, *sorted(f"{name} means {meaning}" for name, meaning in meanings), self.promises.sum_of(inside)]
         return "\n".join(told), self.promises.sum_of(found - inside)

@@ -5,7 +5,7 @@ import hashlib
 import re
 
 import parts
-from unfolding import Words, frozen, numbered
+from unfolding import Numbers, Words, frozen
 
 
 class Promises(frozen["Printer"]):
@@ -80,13 +80,13 @@ class Promises(frozen["Printer"]):
 
     def add(self, reader, tokens, indent="", field=None):
         """One line of a part, and the parts that it names."""
-        tokens = frozen["bare"](self.words.unfolded(tokens)) if isinstance(tokens, list) else [tokens]
+        tokens = self.words.unfolded(tokens, reader.fixed) if isinstance(tokens, list) else [Numbers(reader.fixed).of_text(tokens)]
         for it in {it for token in tokens for it in re.findall("\0([^\0]*)\0", token)}:
             found = self.parts_of(it)
             self.cites.update(found)
             if not found and "." in it and it.partition(".")[0] in self.tree.crates:
                 self.lost_in.add(it)
-        self.lines.append((indent + " ".join(numbered(tokens, reader.fixed)), field))
+        self.lines.append((indent + " ".join(tokens), field))
 
     def parts_of(self, name):
         """The parts that an id is of: a definition, an item, and a method of it."""
@@ -162,10 +162,9 @@ class Promises(frozen["Printer"]):
 
     # ---- what names lead to
 
-    def named_by(self, words, own, crates, is_code=False):
-        """What has one of these words as its name, as far as a crate can name it: all of its own, and what is public of the others. Code names no
-        definition."""
-        found = {it for word in words for it in self.by_word.get(word, ()) if not (is_code and it in self.tree.antt)}
+    def named_by(self, words, own, crates):
+        """What has one of these words as its name, as far as a crate can name it: all of its own, and what is public of the others."""
+        found = {it for word in words for it in self.by_word.get(word, ())}
         return {it for it in found if it.partition(".")[0] == own or it.partition(".")[0] in crates and (it in self.tree.antt or it in self.open)}
 
     def reached(self, roots, words, own, crates):
