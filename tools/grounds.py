@@ -93,7 +93,8 @@ class Grounds:
     def is_known(self, meaning):
         """Whether a name of this meaning leads to a part, or is one of a module, a file or another library."""
         crate, *module = meaning.split(".")
-        return crate not in self.tree.crates or bool(self.promises.parts_of(meaning)) or (crate, tuple(module)) in self.tree.modules or meaning in self.tree.scopes
+        is_place = (crate, tuple(module)) in self.tree.modules or meaning in self.tree.scopes
+        return is_place or crate not in self.tree.crates or bool(self.promises.parts_of(meaning))
 
     def traits_in(self, module):
         """The traits that a module names, each with the names of its functions."""

@@ -1,6 +1,6 @@
 """What crates state, in parts: a definition; a function; a type with its fields and what its crate implements for it; a method; a trait; and what another
-crate implements for a type. A part is the lines that tools/frozen prints, private things too, and it names others. Words that abbreviate are replaced by what
-they mean, and parameters and bound names by numbers. Of a body, a proof, a comment or a layout it knows nothing."""
+crate implements for a type. A part is the lines that tools/frozen prints, private things too, and it names others. Terms are in one form
+(tools/unfolding.py), and parameters and bound names are numbers. Of a body, a proof, a comment or a layout it knows nothing."""
 import hashlib
 import re
 
@@ -15,7 +15,7 @@ class Promises(frozen["Printer"]):
         options = frozen["Options"]()
         options.at = root
         super().__init__(options)
-        self.sums, self.named, self.unsure, self.unknown_of, self.signed, self.seen = {}, {}, set(), {}, set(), set()
+        self.sums, self.named, self.unsure, self.unknown_of, self.signed = {}, {}, set(), {}, set()
         self.open = {it.id for it in self.tree.items.values() if it.reached}
         for it in self.tree.items.values():
             it.reached = True
@@ -29,11 +29,16 @@ class Promises(frozen["Printer"]):
         """What is implemented for each type, under the type itself where an alias names it."""
         found = {}
         for block in self.tree.impls:
-            while self.is_alias(block.target_id):
-                it = self.tree.items[block.target_id]
-                block.target_id = self.tree.rust_id(it.crate, it.module, parts.head_path(it.text().partition("=")[2]))
+            block.target_id = self.behind_alias(block.target_id)
             found.setdefault(block.target_id, []).append(block)
         return found
+
+    def behind_alias(self, name, depth=0):
+        """What an alias names, through others too."""
+        if not self.is_alias(name) or depth > 9:
+            return name
+        it = self.tree.items[name]
+        return self.behind_alias(self.tree.rust_id(it.crate, it.module, parts.head_path(it.text().partition("=")[2])), depth + 1)
 
     def is_alias(self, name):
         return name in self.tree.items and self.tree.items[name].kind == "type"
@@ -80,7 +85,8 @@ class Promises(frozen["Printer"]):
 
     def add(self, reader, tokens, indent="", field=None):
         """One line of a part, and the parts that it names."""
-        tokens = self.words.unfolded(tokens, reader.fixed) if isinstance(tokens, list) else [Numbers(reader.fixed).of_text(tokens)]
+        is_term = isinstance(tokens, list)
+        tokens = self.words.unfolded(tokens, reader.fixed) if is_term else [Numbers(reader.fixed).of_text(tokens)]
         for it in {it for token in tokens for it in re.findall("\0([^\0]*)\0", token)}:
             found = self.parts_of(it)
             self.cites.update(found)
@@ -90,7 +96,9 @@ class Promises(frozen["Printer"]):
 
     def parts_of(self, name):
         """The parts that an id is of: a definition, an item, and a method of it."""
-        return [it for it in above(name) if it in self.tree.antt or it in self.tree.items or it.rpartition(".")[2] in self.methods.get(it.rpartition(".")[0], ())]
+        def is_part(owner, last, it):
+            return it in self.tree.antt or it in self.tree.items or last in self.methods.get(owner, ())
+        return [it for it in above(name) if is_part(it.rpartition(".")[0], it.rpartition(".")[2], it)]
 
     def file(self, file):
         """A whole file of definitions, for a name in it that is found nowhere."""

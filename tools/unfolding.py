@@ -44,7 +44,7 @@ def flat(items):
 
 
 def is_field(item):
-    return isinstance(item, str) and item[0] == "." and len(item) > 1
+    return isinstance(item, str) and item[0] == "." and item not in frozen["KEYWORDS"]
 
 
 def is_atom(item):
