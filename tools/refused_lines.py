@@ -2,8 +2,9 @@
 
 A line has the edit, and three checksums. One is of its text. One is of the function that it changes as it stands, with all that its crate states under
 the names in the two, and on and on: contracts, types, constants, definitions, private ones too. One is of what the crates below state of all these.
-Other bodies, proofs, comments and the order of items are in none (tools/grounds.py). Of an edit that lies in no one function's body the second is of its
-whole crate (src/, specs/, proofs/ and its line of crates.txt), and the third of what those below state under the words of these.
+Other bodies, proofs, comments and the order of items are in none (tools/grounds.py). A word that abbreviates counts as what it means
+(tools/unfolding.py). Of an edit that lies in no one function's body, or where a name's meaning isn't certain, the second is of the whole crate: src/,
+specs/, proofs/ and its line of crates.txt. The third is then of what those below state under the words of these.
 """
 import hashlib
 import os
