@@ -40,10 +40,10 @@ def split(text, mark=","):
 # ---- .rt files
 
 class Code:
-    """A `.rt` file with spaces in place of its comments. It knows where its strings are, and where a bracket is closed."""
+    """A `.rt` file, or a text, with spaces in place of its comments. It knows where its strings are, and where a bracket is closed."""
 
-    def __init__(self, path):
-        self.path, self.text, self.literals = path, read(path), {}
+    def __init__(self, path, text=None):
+        self.path, self.text, self.literals = path, read(path) if text is None else text, {}
         at, out = 0, []
         comment = re.compile(r"//[^\n]*|/\*.*?\*/", re.DOTALL)
         while at < len(self.text):

@@ -1,31 +1,30 @@
 """The file tests/refused.txt: wrong bodies that were seen refused, a line each, with checksums of all that a refusal rests on.
 
-A line has the edit, and checksums of its text, of its crate (src/, specs/, proofs/ and its line of crates.txt), and of what the crates below
-it promise and define.
+A line has the edit, and three checksums. One is of its text. One is of the function that it changes as it stands, with all that its crate states under
+the names in the two, and on and on: contracts, types, constants, definitions, private ones too. One is of what the crates below state of all these.
+Other bodies, proofs, comments and the order of items are in none (tools/grounds.py). A word that abbreviates counts as what it means
+(tools/unfolding.py). Of an edit that lies in no one function's body, or where a name's meaning isn't certain, the second is of the whole crate: src/,
+specs/, proofs/ and its line of crates.txt. The third is then of what those below state under the words of these.
 """
 import hashlib
 import os
-import re
 import subprocess
 
+import grounds
 import parts
 import promises
 
 PLACE = "tests/refused.txt"
 HEAD = """\
-# Wrong bodies that tools/try_edits saw refused: the edit, and checksums of its text, of its crate, and of what the crates below it promise.
-# The tool writes this file. An edit whose line holds is not tried again, but for ten that the commit draws.
+# Wrong bodies that tools/try_edits saw refused: the edit, and checksums of its text, of its function with all that its crate states under the names in
+# the two, and of what the crates below state under these. The tool writes this file. An edit whose line holds is not tried again, but for ten that the
+# commit draws.
 """
 DRAWN = 10
 
 
 def sum_of(*texts):
     return hashlib.sha256("\0".join(texts).encode()).hexdigest()[:20]
-
-
-def words_of(text):
-    """What in a text can be the last part of a name: a Rust name, or a definition's, as `least'` or `◌≤◌`."""
-    return {*re.findall(r"\w+", text), *re.split(r"[\s()\[\]{}.,;:]+", text)}
 
 
 def uses_of(root):
@@ -43,7 +42,7 @@ class Sums:
     """The checksums of a checkout's crates."""
 
     def __init__(self, root):
-        self.root, self.uses, self.known, self.promised = root, uses_of(root), {}, None
+        self.root, self.uses, self.known, self.promised, self.grounds = root, uses_of(root), {}, None, {}
 
     def below(self, crate):
         """The checkout's crates below one, in the order of crates.txt."""
@@ -63,16 +62,22 @@ class Sums:
         """A checksum of a crate's files and its line of crates.txt, and the words in these."""
         if crate not in self.known:
             told = [self.uses[crate][1], *[it for path in self.files_of(crate) for it in (os.path.relpath(path, self.root), parts.read(path))]]
-            self.known[crate] = sum_of(*told), words_of("\n".join(told))
+            self.known[crate] = sum_of(*told), grounds.words_of("\n".join(told))
         return self.known[crate]
 
     def of_edit(self, crate, edit):
-        """The checksums of an edit's text, of its crate, and of what the crates below promise under names that stand in the two."""
+        """The checksums of an edit's text, and of what its refusal rests on in its crate and in those below it."""
+        if crate not in self.grounds:
+            self.promised = self.promised or promises.Promises(self.root)
+            self.grounds[crate] = grounds.Grounds(self.promised, crate, self.below(crate))
+        inside, below = self.grounds[crate].of_edit(edit) or self.of_whole_crate(crate, edit)
+        return f"{sum_of(edit.text)} {sum_of(inside)} {sum_of(below)}"
+
+    def of_whole_crate(self, crate, edit):
+        """What a refusal rests on at most: its whole crate, and what the crates below state under names that stand in this or in the edit."""
         below, (of_crate, words) = {*self.below(crate)}, self.of_crate(crate)
-        if below and self.promised is None:
-            self.promised = promises.Promises(self.root)
-        of_below = self.promised.sum_of(self.promised.named_by(words | words_of(edit.text), below), below) if below else ""
-        return f"{sum_of(edit.text)} {of_crate} {sum_of(of_below)}"
+        words = words | grounds.words_of(edit.text)
+        return of_crate, self.promised.sum_of(self.promised.reached(self.promised.named_by(words, None, below), words, None, below))
 
     def lines_of(self, crate):
         """How many lines a crate has that are proved once more for its first edit."""
