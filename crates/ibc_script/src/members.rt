@@ -1,10 +1,12 @@
 //! The members of JSON objects in a script.
 
-ghost use Rattle.std.specs.Prelude.{◌≡◌, IfErr, IfOk, IsTrue, Some, map, ok_or};
+ghost use Rattle.std.specs.Prelude.{◌≡◌, IfErr, IfOk, IsErrOf, IsTrue, List, Some, map, ok_or};
 ghost use Rattle.std.specs.List.{list_any};
+ghost use Rattle.serde_json.specs.Data.{Data};
 ghost use Rattle.serde_json.specs.Find.{get};
 ghost use Rattle.serde_json.specs.View.{members_view, view};
-ghost use Rattle.ibc_script.specs.Faults.{IsScriptFault};
+ghost use Rattle.ibc_ids.specs.Texts.{Text};
+ghost use Rattle.ibc_script.specs.Faults.{IsScriptFault, OnlyWhereNone};
 ghost use Rattle.std.specs.Str.{bytes_eq};
 ghost use Rattle.ibc_script.specs.Scripts.{number_at};
 ghost use Rattle.ibc_script.specs.ScriptValues.{AreItems, IsNumber, IsNumberIfThere, IsText, IsTextIfThere, are_among, has_only};
@@ -16,6 +18,7 @@ use serde_json::{Map, Value};
 pub fn has_only(object: &Value, names: &[&str]) -> Result<(), Fault>
     ensures only { IfOk result (λ _. IsTrue (has_only (map (λ name. name.now) names.now) (view object.now))) }
     ensures faults { IfErr result IsScriptFault }
+    ensures bad { IsErrOf result Fault.BadScript → ¬ IsTrue (has_only (map (λ name. name.now) names.now) (view object.now)) }
 {
     match object.as_object() {
         Some(members) => are_among(members, names),
@@ -27,6 +30,7 @@ pub fn has_only(object: &Value, names: &[&str]) -> Result<(), Fault>
 fn are_among(members: &Map<String, Value>, names: &[&str]) -> Result<(), Fault>
     ensures among { IfOk result (λ _. IsTrue (are_among (map (λ name. name.now) names.now) (members_view members.now.entries))) }
     ensures faults { IfErr result IsScriptFault }
+    ensures bad { IsErrOf result Fault.BadScript → ¬ IsTrue (are_among (map (λ name. name.now) names.now) (members_view members.now.entries)) }
 {
     for member in members.keys() {
         if !is_one_of(names, member.as_str()) {
@@ -48,6 +52,7 @@ pub fn number(object: &Value, name: &str) -> Result<u64, Fault>
     ensures value { result ≡ ok_or (number_at name.now (view object.now)) Fault.BadScript }
     ensures number { IfOk result (λ number. IsNumber number (get name.now (view object.now))) }
     ensures faults { IfErr result IsScriptFault }
+    ensures bad { OnlyWhereNone result (λ number. IsNumber number (get name.now (view object.now))) }
 {
     object
         .get(name)
@@ -59,6 +64,7 @@ pub fn number(object: &Value, name: &str) -> Result<u64, Fault>
 pub fn optional_number(object: &Value, name: &str) -> Result<Option<u64>, Fault>
     ensures number { IfOk result (λ number. IsNumberIfThere number (get name.now (view object.now))) }
     ensures faults { IfErr result IsScriptFault }
+    ensures bad { OnlyWhereNone result (λ number. IsNumberIfThere number (get name.now (view object.now))) }
 {
     if object.get(name).is_none() {
         return Ok(None);
@@ -70,6 +76,7 @@ pub fn optional_number(object: &Value, name: &str) -> Result<Option<u64>, Fault>
 pub fn text<'v>(object: &'v Value, name: &str) -> Result<&'v str, Fault>
     ensures text { IfOk result (λ text. IsText text.now (get name.now (view object.now))) }
     ensures faults { IfErr result IsScriptFault }
+    ensures bad { IsErrOf result Fault.BadScript → (text : Text) → ¬ IsText text (get name.now (view object.now)) }
 {
     object
         .get(name)
@@ -81,6 +88,7 @@ pub fn text<'v>(object: &'v Value, name: &str) -> Result<&'v str, Fault>
 pub fn text_or_empty<'v>(object: &'v Value, name: &str) -> Result<&'v str, Fault>
     ensures text { IfOk result (λ text. IsTextIfThere text.now (get name.now (view object.now))) }
     ensures faults { IfErr result IsScriptFault }
+    ensures bad { IsErrOf result Fault.BadScript → (text : Text) → ¬ IsTextIfThere text (get name.now (view object.now)) }
 {
     if object.get(name).is_none() {
         return Ok("");
@@ -92,6 +100,7 @@ pub fn text_or_empty<'v>(object: &'v Value, name: &str) -> Result<&'v str, Fault
 pub fn item_text(item: &Value) -> Result<&str, Fault>
     ensures text { IfOk result (λ text. IsText text.now (Some (view item.now))) }
     ensures faults { IfErr result IsScriptFault }
+    ensures bad { IsErrOf result Fault.BadScript → (text : Text) → ¬ IsText text (Some (view item.now)) }
 {
     item.as_str().ok_or(Fault::BadScript)
 }
@@ -100,6 +109,7 @@ pub fn item_text(item: &Value) -> Result<&str, Fault>
 pub fn list<'v>(object: &'v Value, name: &str) -> Result<&'v [Value], Fault>
     ensures items { IfOk result (λ items. AreItems (map view items.now) (get name.now (view object.now))) }
     ensures faults { IfErr result IsScriptFault }
+    ensures bad { IsErrOf result Fault.BadScript → (items : List Data) → ¬ AreItems items (get name.now (view object.now)) }
 {
     match object.get(name) {
         Some(value) => item_list(value),
@@ -111,6 +121,7 @@ pub fn list<'v>(object: &'v Value, name: &str) -> Result<&'v [Value], Fault>
 pub fn item_list(item: &Value) -> Result<&[Value], Fault>
     ensures items { IfOk result (λ items. AreItems (map view items.now) (Some (view item.now))) }
     ensures faults { IfErr result IsScriptFault }
+    ensures bad { IsErrOf result Fault.BadScript → (items : List Data) → ¬ AreItems items (Some (view item.now)) }
 {
     match item.as_array() {
         Some(items) => Ok(items.as_slice()),

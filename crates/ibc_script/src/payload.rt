@@ -14,6 +14,7 @@ use std::alloc::{AllocError, Global};
 pub fn payload_of(alloc: Global, text: &str) -> Result<Option<Bytes>, AllocError>
     ensures some { IfOk result (λ found. IfSome found (λ bytes. text.now ≡ encode_of standard bytes)) }
     ensures none { IfOk result (λ found. found ≡ None → (bytes : List ℕ) → IsBytes bytes → text.now ≢ encode_of standard bytes) }
+    ensures bytes { IfOk result (λ found. IfSome found IsBytes) }
 {
     match STANDARD.decode(alloc, text.as_bytes()) {
         Ok(bytes) => Ok(Some(Bytes::from_vec(bytes))),

@@ -1,10 +1,11 @@
 //! The chains of a script, and how they begin.
 
-ghost use Rattle.std.specs.Prelude.{◌≡◌, ◌≤◌, ℕ, Some, false, length, map, slice_get, zip, IfOk, IfErr};
+ghost use Rattle.std.specs.Prelude.{◌≡◌, ◌≤◌, ℕ, Some, false, true, length, map, slice_get, zip, IfOk, IfErr, IsErrOf, List};
 ghost use Rattle.serde_json.specs.View.{view};
-ghost use Rattle.ibc_machine.specs.chain.Genesis.{chain_state};
-ghost use Rattle.ibc_script.specs.Faults.{IsScriptFault};
-ghost use Rattle.ibc_script.specs.ScriptValues.{AreDifferent, AreEach, IsChainStart, IsHolding};
+ghost use Rattle.ibc_ids.specs.Texts.{Text};
+ghost use Rattle.ibc_machine.specs.chain.Genesis.{ChainState, Holding, chain_state};
+ghost use Rattle.ibc_script.specs.Faults.{IsScriptFault, OnlyWhereNone};
+ghost use Rattle.ibc_script.specs.ScriptValues.{AreChainStarts, AreDifferent, AreEach, IsChainStart, IsHolding};
 
 use super::{item_amount, item_name, parse_name};
 use crate::members::{has_only, item_list, list, number, text};
@@ -19,6 +20,7 @@ use std::alloc::Global;
 fn read_balance(alloc: Global, value: &Value) -> Result<(UserName, Denom, u128), Fault>
     ensures holding { IfOk result (λ holding. IsHolding holding (Some (view value.now))) }
     ensures faults { IfErr result IsScriptFault }
+    ensures bad { OnlyWhereNone result (λ holding. IsHolding holding (Some (view value.now))) }
 {
     let [user, denom, amount] = item_list(value)? else {
         return Err(Fault::BadScript);
@@ -30,6 +32,7 @@ fn read_balance(alloc: Global, value: &Value) -> Result<(UserName, Denom, u128),
 fn read_balances(alloc: Global, values: &[Value]) -> Result<Vec<(UserName, Denom, u128)>, Fault>
     ensures holdings { IfOk result (λ balances. AreEach IsHolding balances.items (map view values.now)) }
     ensures faults { IfErr result IsScriptFault }
+    ensures bad { IsErrOf result Fault.BadScript → (balances : List Holding) → ¬ AreEach IsHolding balances (map view values.now) }
 {
     let mut balances = Vec::with_capacity(alloc, values.len())?;
     for value in values {
@@ -41,6 +44,7 @@ fn read_balances(alloc: Global, values: &[Value]) -> Result<Vec<(UserName, Denom
 fn read_chain(alloc: Global, value: &Value) -> Result<(ChainName, ChainStart), Fault>
     ensures start { IfOk result (λ read. IsChainStart (read.0, chain_state read.1) (Some (view value.now))) }
     ensures faults { IfErr result IsScriptFault }
+    ensures bad { IsErrOf result Fault.BadScript → (start : Text × ChainState) → ¬ IsChainStart start (Some (view value.now)) }
 {
     has_only(value, &["name", "time", "balances"])?;
     let time = number(value, "time")?;
@@ -52,7 +56,8 @@ fn read_chain(alloc: Global, value: &Value) -> Result<(ChainName, ChainStart), F
 
 // Whether a name is one of these.
 fn is_known(names: &[ChainName], name: &ChainName) -> bool
-    ensures { result ≡ false → (i : ℕ) → slice_get names.now i ≡ Some name.now → ⊥ }
+    ensures new { result ≡ false → (i : ℕ) → slice_get names.now i ≡ Some name.now → ⊥ }
+    ensures known { result ≡ true → (i : ℕ) × (slice_get names.now i ≡ Some name.now) }
 {
     names.contains(name)
 }
@@ -67,6 +72,7 @@ pub fn read_chains(
     ensures named { IfOk result (λ r. length r.0.items ≡ length r.1.items) }
     ensures few { IfOk result (λ r. length r.0.items ≤ 8) }
     ensures faults { IfErr result IsScriptFault }
+    ensures bad { IsErrOf result Fault.BadScript → (names : List Text) (starts : List ChainState) → ¬ AreChainStarts names starts (map view values.now) }
 {
     if values.len() > MOST_CHAINS {
         return Err(Fault::BadScript);

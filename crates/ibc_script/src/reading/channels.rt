@@ -3,8 +3,9 @@
 ghost use Rattle.std.specs.Prelude.{◌<◌, length, IfOk, IfErr, codes};
 ghost use Rattle.serde_json.specs.Find.{get};
 ghost use Rattle.serde_json.specs.View.{view};
-ghost use Rattle.ibc_script.specs.Faults.{IsScriptFault};
-ghost use Rattle.ibc_script.specs.ScriptValues.{AreFields, IsDraft, IsText, channel_end_fields, opening_fields};
+ghost use Rattle.ibc_ids.specs.Names.{is_version};
+ghost use Rattle.ibc_script.specs.Faults.{IsScriptFault, OnlyWhereNone};
+ghost use Rattle.ibc_script.specs.ScriptValues.{AreFields, IsDraft, IsName, channel_end_fields, opening_fields};
 ghost use Rattle.ibc_script.specs.declared.draft.Draft.TheVariants as any_draft;
 ghost use Rattle.ibc_script.specs.Scripts.{IsChannelAmong};
 
@@ -21,6 +22,7 @@ impl StepReader<'_> {
         ensures draft { IfOk result (λ d. IsDraft kind.now self.now.names.now (view self.now.object.now) (any_draft.Channel d)) }
         ensures among { IfOk result (IsChannelAmong (length self.now.names.now)) }
         ensures faults { IfErr result IsScriptFault }
+        ensures bad { OnlyWhereNone result (λ d. IsDraft kind.now self.now.names.now (view self.now.object.now) (any_draft.Channel d)) }
     {
         match kind {
             "ChanOpenInit" => self.chan_open_init(),
@@ -37,6 +39,7 @@ impl StepReader<'_> {
     fn own_end(&self) -> Result<(PortId, ChannelId), Fault>
         ensures end { IfOk result (λ end. AreFields (channel_end_fields end.0 end.1) (view self.now.object.now)) }
         ensures faults { IfErr result IsScriptFault }
+        ensures bad { OnlyWhereNone result (λ end. AreFields (channel_end_fields end.0 end.1) (view self.now.object.now)) }
     {
         Ok((self.name("port")?, self.name("channel")?))
     }
@@ -44,8 +47,9 @@ impl StepReader<'_> {
     /// What the first two steps of a channel's handshake have in common.
     fn opening(&self) -> Result<ChanOpenInit, Fault>
         ensures ends { IfOk result (λ m. AreFields (opening_fields m.port m.order m.connection m.peer_port) (view self.now.object.now)) }
-        ensures version { IfOk result (λ m. IsText m.version (get (codes "version") (view self.now.object.now))) }
+        ensures version { IfOk result (λ m. IsName is_version m.version (get (codes "version") (view self.now.object.now))) }
         ensures faults { IfErr result IsScriptFault }
+        ensures bad { OnlyWhereNone result (λ m. AreFields (opening_fields m.port m.order m.connection m.peer_port) (view self.now.object.now) × IsName is_version m.version (get (codes "version") (view self.now.object.now))) }
     {
         Ok(ChanOpenInit {
             order: self.order("order")?,
@@ -60,6 +64,7 @@ impl StepReader<'_> {
         ensures draft { IfOk result (λ d. IsDraft (codes "ChanOpenInit") self.now.names.now (view self.now.object.now) (any_draft.Channel d)) }
         ensures among { IfOk result (IsChannelAmong (length self.now.names.now)) }
         ensures faults { IfErr result IsScriptFault }
+        ensures bad { OnlyWhereNone result (λ d. IsDraft (codes "ChanOpenInit") self.now.names.now (view self.now.object.now) (any_draft.Channel d)) }
     {
         has_only(
             self.object,
@@ -80,6 +85,7 @@ impl StepReader<'_> {
         ensures draft { IfOk result (λ d. IsDraft (codes "ChanOpenTry") self.now.names.now (view self.now.object.now) (any_draft.Channel d)) }
         ensures among { IfOk result (IsChannelAmong (length self.now.names.now)) }
         ensures faults { IfErr result IsScriptFault }
+        ensures bad { OnlyWhereNone result (λ d. IsDraft (codes "ChanOpenTry") self.now.names.now (view self.now.object.now) (any_draft.Channel d)) }
     {
         has_only(
             self.object,
@@ -114,6 +120,7 @@ impl StepReader<'_> {
         ensures draft { IfOk result (λ d. IsDraft (codes "ChanOpenAck") self.now.names.now (view self.now.object.now) (any_draft.Channel d)) }
         ensures among { IfOk result (IsChannelAmong (length self.now.names.now)) }
         ensures faults { IfErr result IsScriptFault }
+        ensures bad { OnlyWhereNone result (λ d. IsDraft (codes "ChanOpenAck") self.now.names.now (view self.now.object.now) (any_draft.Channel d)) }
     {
         has_only(
             self.object,
@@ -142,6 +149,7 @@ impl StepReader<'_> {
         ensures draft { IfOk result (λ d. IsDraft (codes "ChanOpenConfirm") self.now.names.now (view self.now.object.now) (any_draft.Channel d)) }
         ensures among { IfOk result (IsChannelAmong (length self.now.names.now)) }
         ensures faults { IfErr result IsScriptFault }
+        ensures bad { OnlyWhereNone result (λ d. IsDraft (codes "ChanOpenConfirm") self.now.names.now (view self.now.object.now) (any_draft.Channel d)) }
     {
         has_only(
             self.object,
@@ -160,6 +168,7 @@ impl StepReader<'_> {
         ensures draft { IfOk result (λ d. IsDraft (codes "ChanCloseInit") self.now.names.now (view self.now.object.now) (any_draft.Channel d)) }
         ensures among { IfOk result (IsChannelAmong (length self.now.names.now)) }
         ensures faults { IfErr result IsScriptFault }
+        ensures bad { OnlyWhereNone result (λ d. IsDraft (codes "ChanCloseInit") self.now.names.now (view self.now.object.now) (any_draft.Channel d)) }
     {
         has_only(self.object, &["do", "on", "port", "channel"])?;
         let (port, channel) = self.own_end()?;
@@ -170,6 +179,7 @@ impl StepReader<'_> {
         ensures draft { IfOk result (λ d. IsDraft (codes "ChanCloseConfirm") self.now.names.now (view self.now.object.now) (any_draft.Channel d)) }
         ensures among { IfOk result (IsChannelAmong (length self.now.names.now)) }
         ensures faults { IfErr result IsScriptFault }
+        ensures bad { OnlyWhereNone result (λ d. IsDraft (codes "ChanCloseConfirm") self.now.names.now (view self.now.object.now) (any_draft.Channel d)) }
     {
         has_only(
             self.object,

@@ -2,7 +2,7 @@
 
 ghost use Rattle.std.specs.Prelude.{◌<◌, length, IfOk, IfErr, codes};
 ghost use Rattle.serde_json.specs.View.{view};
-ghost use Rattle.ibc_script.specs.Faults.{IsScriptFault};
+ghost use Rattle.ibc_script.specs.Faults.{IsScriptFault, OnlyWhereNone};
 ghost use Rattle.ibc_script.specs.ScriptValues.{IsDraft};
 ghost use Rattle.ibc_script.specs.declared.draft.Draft.TheVariants as any_draft;
 ghost use Rattle.ibc_script.specs.Scripts.{IsClientAmong};
@@ -18,6 +18,7 @@ impl StepReader<'_> {
         ensures draft { IfOk result (λ d. IsDraft kind.now self.now.names.now (view self.now.object.now) (any_draft.Client d)) }
         ensures among { IfOk result (IsClientAmong (length self.now.names.now)) }
         ensures faults { IfErr result IsScriptFault }
+        ensures bad { OnlyWhereNone result (λ d. IsDraft kind.now self.now.names.now (view self.now.object.now) (any_draft.Client d)) }
     {
         match kind {
             "CreateClient" => self.create_client(),
@@ -30,6 +31,7 @@ impl StepReader<'_> {
         ensures draft { IfOk result (λ d. IsDraft (codes "CreateClient") self.now.names.now (view self.now.object.now) (any_draft.Client d)) }
         ensures among { IfOk result (IsClientAmong (length self.now.names.now)) }
         ensures faults { IfErr result IsScriptFault }
+        ensures bad { OnlyWhereNone result (λ d. IsDraft (codes "CreateClient") self.now.names.now (view self.now.object.now) (any_draft.Client d)) }
     {
         has_only(self.object, &["do", "on", "of"])?;
         Ok(ClientDraft::Create {
@@ -41,6 +43,7 @@ impl StepReader<'_> {
         ensures draft { IfOk result (λ d. IsDraft (codes "UpdateClient") self.now.names.now (view self.now.object.now) (any_draft.Client d)) }
         ensures among { IfOk result (IsClientAmong (length self.now.names.now)) }
         ensures faults { IfErr result IsScriptFault }
+        ensures bad { OnlyWhereNone result (λ d. IsDraft (codes "UpdateClient") self.now.names.now (view self.now.object.now) (any_draft.Client d)) }
     {
         has_only(self.object, &["do", "on", "client", "height"])?;
         Ok(ClientDraft::Update {

@@ -3,8 +3,9 @@
 ghost use Rattle.std.specs.Prelude.{◌<◌, length, IfOk, IfErr, codes};
 ghost use Rattle.serde_json.specs.Find.{get};
 ghost use Rattle.serde_json.specs.View.{view};
-ghost use Rattle.ibc_script.specs.Faults.{IsScriptFault};
-ghost use Rattle.ibc_script.specs.ScriptValues.{IsDraft, IsText};
+ghost use Rattle.ibc_ids.specs.Names.{is_client};
+ghost use Rattle.ibc_script.specs.Faults.{IsScriptFault, OnlyWhereNone};
+ghost use Rattle.ibc_script.specs.ScriptValues.{AreFields, IsDraft, IsName, client_ends_fields};
 ghost use Rattle.ibc_script.specs.declared.draft.Draft.TheVariants as any_draft;
 ghost use Rattle.ibc_script.specs.Scripts.{IsConnectionAmong};
 
@@ -20,6 +21,7 @@ impl StepReader<'_> {
         ensures draft { IfOk result (λ d. IsDraft kind.now self.now.names.now (view self.now.object.now) (any_draft.Connection d)) }
         ensures among { IfOk result (IsConnectionAmong (length self.now.names.now)) }
         ensures faults { IfErr result IsScriptFault }
+        ensures bad { OnlyWhereNone result (λ d. IsDraft kind.now self.now.names.now (view self.now.object.now) (any_draft.Connection d)) }
     {
         match kind {
             "ConnOpenInit" => self.conn_open_init(),
@@ -32,9 +34,10 @@ impl StepReader<'_> {
 
     /// The clients of the two ends of a connection.
     fn two_clients(&self) -> Result<(ClientId, ClientId), Fault>
-        ensures own { IfOk result (λ clients. IsText clients.0 (get (codes "client") (view self.now.object.now))) }
-        ensures peer { IfOk result (λ clients. IsText clients.1 (get (codes "peer_client") (view self.now.object.now))) }
+        ensures own { IfOk result (λ clients. IsName is_client clients.0 (get (codes "client") (view self.now.object.now))) }
+        ensures peer { IfOk result (λ clients. IsName is_client clients.1 (get (codes "peer_client") (view self.now.object.now))) }
         ensures faults { IfErr result IsScriptFault }
+        ensures bad { OnlyWhereNone result (λ clients. AreFields (client_ends_fields clients.0 clients.1) (view self.now.object.now)) }
     {
         Ok((self.name("client")?, self.name("peer_client")?))
     }
@@ -43,6 +46,7 @@ impl StepReader<'_> {
         ensures draft { IfOk result (λ d. IsDraft (codes "ConnOpenInit") self.now.names.now (view self.now.object.now) (any_draft.Connection d)) }
         ensures among { IfOk result (IsConnectionAmong (length self.now.names.now)) }
         ensures faults { IfErr result IsScriptFault }
+        ensures bad { OnlyWhereNone result (λ d. IsDraft (codes "ConnOpenInit") self.now.names.now (view self.now.object.now) (any_draft.Connection d)) }
     {
         has_only(self.object, &["do", "on", "client", "peer_client"])?;
         let (client, peer_client) = self.two_clients()?;
@@ -56,6 +60,7 @@ impl StepReader<'_> {
         ensures draft { IfOk result (λ d. IsDraft (codes "ConnOpenTry") self.now.names.now (view self.now.object.now) (any_draft.Connection d)) }
         ensures among { IfOk result (IsConnectionAmong (length self.now.names.now)) }
         ensures faults { IfErr result IsScriptFault }
+        ensures bad { OnlyWhereNone result (λ d. IsDraft (codes "ConnOpenTry") self.now.names.now (view self.now.object.now) (any_draft.Connection d)) }
     {
         has_only(
             self.object,
@@ -84,6 +89,7 @@ impl StepReader<'_> {
         ensures draft { IfOk result (λ d. IsDraft (codes "ConnOpenAck") self.now.names.now (view self.now.object.now) (any_draft.Connection d)) }
         ensures among { IfOk result (IsConnectionAmong (length self.now.names.now)) }
         ensures faults { IfErr result IsScriptFault }
+        ensures bad { OnlyWhereNone result (λ d. IsDraft (codes "ConnOpenAck") self.now.names.now (view self.now.object.now) (any_draft.Connection d)) }
     {
         has_only(
             self.object,
@@ -107,6 +113,7 @@ impl StepReader<'_> {
         ensures draft { IfOk result (λ d. IsDraft (codes "ConnOpenConfirm") self.now.names.now (view self.now.object.now) (any_draft.Connection d)) }
         ensures among { IfOk result (IsConnectionAmong (length self.now.names.now)) }
         ensures faults { IfErr result IsScriptFault }
+        ensures bad { OnlyWhereNone result (λ d. IsDraft (codes "ConnOpenConfirm") self.now.names.now (view self.now.object.now) (any_draft.Connection d)) }
     {
         has_only(self.object, &["do", "on", "connection", "from", "height"])?;
         Ok(ConnectionDraft::OpenConfirm {

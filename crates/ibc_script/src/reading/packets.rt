@@ -3,8 +3,8 @@
 ghost use Rattle.std.specs.Prelude.{◌<◌, ◌∷◌, [], codes, length, IfOk, IfErr, IsTrue};
 ghost use Rattle.serde_json.specs.Find.{get};
 ghost use Rattle.serde_json.specs.View.{view};
-ghost use Rattle.ibc_script.specs.Faults.{IsScriptFault};
-ghost use Rattle.ibc_script.specs.ScriptValues.{AreFields, IsDraft, IsNote, IsPacket, has_only, source_fields};
+ghost use Rattle.ibc_script.specs.Faults.{IsScriptFault, OnlyWhereNone};
+ghost use Rattle.ibc_script.specs.ScriptValues.{AreFields, HasBeside, IsDraft, IsNote, IsPacket, has_only, sent_fields, source_fields};
 ghost use Rattle.ibc_script.specs.declared.draft.Draft.TheVariants as any_draft;
 ghost use Rattle.ibc_script.specs.Scripts.{IsPacketAmong};
 
@@ -22,6 +22,7 @@ impl StepReader<'_> {
     fn payload(&self, member: &str) -> Result<Bytes, Fault>
         ensures note { IfOk result (λ bytes. IsNote bytes (get member.now (view self.now.object.now))) }
         ensures faults { IfErr result IsScriptFault }
+        ensures bad { OnlyWhereNone result (λ bytes. IsNote bytes (get member.now (view self.now.object.now))) }
     {
         payload_of(self.alloc, text(self.object, member)?)?.ok_or(Fault::BadScript)
     }
@@ -31,6 +32,7 @@ impl StepReader<'_> {
         ensures packet { IfOk result (λ sent. IsPacket self.now.names.now sent (get (codes "packet") (view self.now.object.now))) }
         ensures among { IfOk result (λ sent. sent.chain < length self.now.names.now) }
         ensures faults { IfErr result IsScriptFault }
+        ensures bad { OnlyWhereNone result (λ sent. IsPacket self.now.names.now sent (get (codes "packet") (view self.now.object.now))) }
     {
         let [chain, port, channel, sequence] = list(self.object, "packet")? else {
             return Err(Fault::BadScript);
@@ -51,6 +53,7 @@ impl StepReader<'_> {
         ensures sent { IfOk result (λ read. read.0.chain < length self.now.names.now) }
         ensures from { IfOk result (λ read. read.1.chain < length self.now.names.now) }
         ensures faults { IfErr result IsScriptFault }
+        ensures bad { OnlyWhereNone result (λ read. HasBeside (sent_fields self.now.names.now read.0 read.1) (view self.now.object.now)) }
     {
         has_only(self.object, &["do", "on", "packet", "from", "height"])?;
         let from = self.origin()?;
@@ -62,6 +65,7 @@ impl StepReader<'_> {
         ensures draft { IfOk result (λ d. IsDraft kind.now self.now.names.now (view self.now.object.now) (any_draft.Packet d)) }
         ensures among { IfOk result (IsPacketAmong (length self.now.names.now)) }
         ensures faults { IfErr result IsScriptFault }
+        ensures bad { OnlyWhereNone result (λ d. IsDraft kind.now self.now.names.now (view self.now.object.now) (any_draft.Packet d)) }
     {
         match kind {
             "Transfer" => self.transfer(),
@@ -79,6 +83,7 @@ impl StepReader<'_> {
         ensures draft { IfOk result (λ d. IsDraft (codes "SendNote") self.now.names.now (view self.now.object.now) (any_draft.Packet d)) }
         ensures among { IfOk result (IsPacketAmong (length self.now.names.now)) }
         ensures faults { IfErr result IsScriptFault }
+        ensures bad { OnlyWhereNone result (λ d. IsDraft (codes "SendNote") self.now.names.now (view self.now.object.now) (any_draft.Packet d)) }
     {
         has_only(
             self.object,
@@ -103,6 +108,7 @@ impl StepReader<'_> {
         ensures draft { IfOk result (λ d. IsDraft (codes "RecvPacket") self.now.names.now (view self.now.object.now) (any_draft.Packet d)) }
         ensures among { IfOk result (IsPacketAmong (length self.now.names.now)) }
         ensures faults { IfErr result IsScriptFault }
+        ensures bad { OnlyWhereNone result (λ d. IsDraft (codes "RecvPacket") self.now.names.now (view self.now.object.now) (any_draft.Packet d)) }
     {
         has_only(self.object, &["do", "on", "packet", "height"])?;
         Ok(PacketDraft::Recv {
@@ -115,6 +121,7 @@ impl StepReader<'_> {
         ensures draft { IfOk result (λ d. IsDraft (codes "AckPacket") self.now.names.now (view self.now.object.now) (any_draft.Packet d)) }
         ensures among { IfOk result (IsPacketAmong (length self.now.names.now)) }
         ensures faults { IfErr result IsScriptFault }
+        ensures bad { OnlyWhereNone result (λ d. IsDraft (codes "AckPacket") self.now.names.now (view self.now.object.now) (any_draft.Packet d)) }
     {
         let (packet, from) = self.packet_from()?;
         Ok(PacketDraft::Ack { packet, from })
@@ -124,6 +131,7 @@ impl StepReader<'_> {
         ensures draft { IfOk result (λ d. IsDraft (codes "Timeout") self.now.names.now (view self.now.object.now) (any_draft.Packet d)) }
         ensures among { IfOk result (IsPacketAmong (length self.now.names.now)) }
         ensures faults { IfErr result IsScriptFault }
+        ensures bad { OnlyWhereNone result (λ d. IsDraft (codes "Timeout") self.now.names.now (view self.now.object.now) (any_draft.Packet d)) }
     {
         let (packet, from) = self.packet_from()?;
         Ok(PacketDraft::Timeout { packet, from })
@@ -133,6 +141,7 @@ impl StepReader<'_> {
         ensures draft { IfOk result (λ d. IsDraft (codes "TimeoutOnClose") self.now.names.now (view self.now.object.now) (any_draft.Packet d)) }
         ensures among { IfOk result (IsPacketAmong (length self.now.names.now)) }
         ensures faults { IfErr result IsScriptFault }
+        ensures bad { OnlyWhereNone result (λ d. IsDraft (codes "TimeoutOnClose") self.now.names.now (view self.now.object.now) (any_draft.Packet d)) }
     {
         let (packet, from) = self.packet_from()?;
         Ok(PacketDraft::TimeoutOnClose { packet, from })

@@ -1,10 +1,11 @@
 //! The members of a step.
 
-ghost use Rattle.std.specs.Prelude.{◌≡◌, ◌≢◌, ◌≤◌, ◌<◌, Some, length, slice_get, true, IfOk, IfErr};
+ghost use Rattle.std.specs.Prelude.{◌≡◌, ◌≢◌, ◌≤◌, ◌<◌, Some, length, slice_get, false, true, IfOk, IfErr};
+ghost use Rattle.std.proofs.Props.{props};
 ghost use Rattle.serde_json.specs.Find.{get};
 ghost use Rattle.serde_json.specs.View.{view};
-ghost use Rattle.ibc_script.specs.Faults.{IsScriptFault};
-ghost use Rattle.ibc_script.specs.ScriptValues.{AreChains, AreFields, IsChain, IsNumber, IsPath, IsText, application_name, order_name, source_fields};
+ghost use Rattle.ibc_script.specs.Faults.{IsScriptFault, OnlyWhereNone};
+ghost use Rattle.ibc_script.specs.ScriptValues.{AreChains, AreDifferent, AreFields, IsChain, IsName, IsNumber, IsPath, IsText, IsTurns, application_name, order_name, source_fields};
 
 use super::parse_name;
 use crate::draft::ProofSource;
@@ -23,11 +24,13 @@ pub struct StepReader<'v> {
     pub names: &'v [ChainName],
     pub object: &'v Value,
     ghost few: { length names.now ≤ 8 },
+    ghost different: { AreDifferent names.now } by { Prim.hlevel props },
 }
 
 // Whether a chain has this name.
 fn is_named(known: &ChainName, name: &str) -> bool
-    ensures { result ≡ true → known.now ≡ name.now }
+    ensures same { result ≡ true → known.now ≡ name.now }
+    ensures other { result ≡ false → known.now ≢ name.now }
 {
     known.as_str() == name
 }
@@ -38,6 +41,7 @@ impl StepReader<'_> {
         ensures named { IfOk result (λ chain. slice_get self.now.names.now chain ≡ Some name.now) }
         ensures among { IfOk result (λ chain. chain < length self.now.names.now) }
         ensures faults { IfErr result IsScriptFault }
+        ensures bad { OnlyWhereNone result (λ chain. slice_get self.now.names.now chain ≡ Some name.now) }
     {
         for place in 0..self.names.len() {
             if is_named(&self.names[place], name) {
@@ -52,6 +56,7 @@ impl StepReader<'_> {
         ensures chain { IfOk result (λ chain. IsChain self.now.names.now chain (get member.now (view self.now.object.now))) }
         ensures among { IfOk result (λ chain. chain < length self.now.names.now) }
         ensures faults { IfErr result IsScriptFault }
+        ensures bad { OnlyWhereNone result (λ chain. IsChain self.now.names.now chain (get member.now (view self.now.object.now))) }
     {
         self.chain_of(text(self.object, member)?)
     }
@@ -61,6 +66,7 @@ impl StepReader<'_> {
         ensures chain { IfOk result (λ chain. IsChain self.now.names.now chain (Some (view item.now))) }
         ensures among { IfOk result (λ chain. chain < length self.now.names.now) }
         ensures faults { IfErr result IsScriptFault }
+        ensures bad { OnlyWhereNone result (λ chain. IsChain self.now.names.now chain (Some (view item.now))) }
     {
         self.chain_of(item_text(item)?)
     }
@@ -72,6 +78,7 @@ impl StepReader<'_> {
         ensures second { IfOk result (λ chains. chains.1 < length self.now.names.now) }
         ensures different { IfOk result (λ chains. chains.0 ≢ chains.1) }
         ensures faults { IfErr result IsScriptFault }
+        ensures bad { OnlyWhereNone result (λ chains. AreChains self.now.names.now chains.0 chains.1 (get member.now (view self.now.object.now))) }
     {
         let [first, second] = list(self.object, member)? else {
             return Err(Fault::BadScript);
@@ -88,16 +95,18 @@ impl StepReader<'_> {
     pub fn number(&self, member: &str) -> Result<u64, Fault>
         ensures number { IfOk result (λ number. IsNumber number (get member.now (view self.now.object.now))) }
         ensures faults { IfErr result IsScriptFault }
+        ensures bad { OnlyWhereNone result (λ number. IsNumber number (get member.now (view self.now.object.now))) }
     {
         number(self.object, member)
     }
 
     /// The number of turns that a member is, 1 to 1,000.
     pub fn turns(&self, member: &str) -> Result<u16, Fault>
-        ensures turns { IfOk result (λ turns. IsNumber turns (get member.now (view self.now.object.now))) }
+        ensures turns { IfOk result (λ turns. IsTurns turns (get member.now (view self.now.object.now))) }
         ensures some { IfOk result (λ turns. 0 < turns) }
         ensures most { IfOk result (λ turns. turns ≤ 1000) }
         ensures faults { IfErr result IsScriptFault }
+        ensures bad { OnlyWhereNone result (λ turns. IsTurns turns (get member.now (view self.now.object.now))) }
     {
         match u16::try_from(self.number(member)?) {
             Ok(turns) if (1..=MOST_TURNS).contains(&turns) => Ok(turns),
@@ -107,8 +116,9 @@ impl StepReader<'_> {
 
     /// The name of a kind that a member is.
     pub fn name<K: NameKind>(&self, member: &str) -> Result<Name<K>, Fault>
-        ensures name { IfOk result (λ name. IsText name (get member.now (view self.now.object.now))) }
+        ensures name { IfOk result (λ name. IsName K.form name (get member.now (view self.now.object.now))) }
         ensures faults { IfErr result IsScriptFault }
+        ensures bad { OnlyWhereNone result (λ name. IsName K.form name (get member.now (view self.now.object.now))) }
     {
         parse_name(self.alloc, text(self.object, member)?)
     }
@@ -117,6 +127,7 @@ impl StepReader<'_> {
     pub fn key(&self, member: &str) -> Result<Key, Fault>
         ensures key { IfOk result (λ key. IsPath key (get member.now (view self.now.object.now))) }
         ensures faults { IfErr result IsScriptFault }
+        ensures bad { OnlyWhereNone result (λ key. IsPath key (get member.now (view self.now.object.now))) }
     {
         match Key::parse(self.alloc, text(self.object, member)?) {
             Ok(key) => Ok(key),
@@ -128,6 +139,7 @@ impl StepReader<'_> {
     pub fn order(&self, member: &str) -> Result<Order, Fault>
         ensures order { IfOk result (λ order. IsText (order_name order) (get member.now (view self.now.object.now))) }
         ensures faults { IfErr result IsScriptFault }
+        ensures bad { OnlyWhereNone result (λ order. IsText (order_name order) (get member.now (view self.now.object.now))) }
     {
         match text(self.object, member)? {
             "ORDERED" => Ok(Order::Ordered),
@@ -140,6 +152,7 @@ impl StepReader<'_> {
     pub fn application(&self, member: &str) -> Result<Application, Fault>
         ensures application { IfOk result (λ app. IsText (application_name app) (get member.now (view self.now.object.now))) }
         ensures faults { IfErr result IsScriptFault }
+        ensures bad { OnlyWhereNone result (λ app. IsText (application_name app) (get member.now (view self.now.object.now))) }
     {
         match text(self.object, member)? {
             "note" => Ok(Application::Note),
@@ -154,6 +167,7 @@ impl StepReader<'_> {
         ensures source { IfOk result (λ from. AreFields (source_fields self.now.names.now from) (view self.now.object.now)) }
         ensures among { IfOk result (λ from. from.chain < length self.now.names.now) }
         ensures faults { IfErr result IsScriptFault }
+        ensures bad { OnlyWhereNone result (λ from. AreFields (source_fields self.now.names.now from) (view self.now.object.now)) }
     {
         Ok(ProofSource {
             chain: self.chain("from")?,

@@ -1,11 +1,14 @@
 //! The steps of a script.
 
-ghost use Rattle.std.specs.Prelude.{◌≤◌, ◌<◌, Some, codes, length, map, All, IfOk, IfErr};
+ghost use Rattle.std.specs.Prelude.{◌≤◌, ◌<◌, ℕ, List, Some, codes, length, map, All, IfOk, IfErr, IsErrOf};
 ghost use Rattle.serde_json.specs.Find.{get};
 ghost use Rattle.serde_json.specs.View.{view};
-ghost use Rattle.ibc_script.specs.Faults.{IsScriptFault};
-ghost use Rattle.ibc_script.specs.ScriptValues.{AreEach, IsDraft, IsStepObject, IsText};
+ghost use Rattle.ibc_script.specs.Faults.{IsScriptFault, OnlyWhereNone};
+ghost use Rattle.ibc_script.specs.ScriptValues.{AreDifferent, AreEach, IsDraft, IsStepObject, IsText};
 ghost use Rattle.ibc_script.specs.Scripts.{IsAmong, IsDraftAmong};
+ghost use Rattle.ibc_script.specs.declared.draft.Draft.{Draft};
+ghost use Rattle.ibc_script.specs.declared.script.Step.{Step};
+ghost use Rattle.ibc_script.specs.declared.script.Step.TheVariants as any_step;
 
 use super::step_reader::StepReader;
 use crate::members::{has_only, optional_number, text};
@@ -20,6 +23,7 @@ impl StepReader<'_> {
         ensures step { IfOk result (λ step. IsStepObject self.now.names.now step (Some (view self.now.object.now))) }
         ensures among { IfOk result (IsAmong (length self.now.names.now)) }
         ensures faults { IfErr result IsScriptFault }
+        ensures bad { OnlyWhereNone result (λ step. IsStepObject self.now.names.now step (Some (view self.now.object.now))) }
     {
         has_only(self.object, &["do", "on", "time"])?;
         Ok(Step::Block {
@@ -33,6 +37,7 @@ impl StepReader<'_> {
         ensures step { IfOk result (λ step. IsStepObject self.now.names.now step (Some (view self.now.object.now))) }
         ensures among { IfOk result (IsAmong (length self.now.names.now)) }
         ensures faults { IfErr result IsScriptFault }
+        ensures bad { OnlyWhereNone result (λ step. IsStepObject self.now.names.now step (Some (view self.now.object.now))) }
     {
         has_only(self.object, &["do", "on", "height"])?;
         Ok(Step::Root {
@@ -46,6 +51,7 @@ impl StepReader<'_> {
         ensures step { IfOk result (λ step. IsStepObject self.now.names.now step (Some (view self.now.object.now))) }
         ensures among { IfOk result (IsAmong (length self.now.names.now)) }
         ensures faults { IfErr result IsScriptFault }
+        ensures bad { OnlyWhereNone result (λ step. IsStepObject self.now.names.now step (Some (view self.now.object.now))) }
     {
         has_only(self.object, &["do", "on", "height", "path"])?;
         Ok(Step::Prove {
@@ -60,6 +66,7 @@ impl StepReader<'_> {
         ensures step { IfOk result (λ step. IsStepObject self.now.names.now step (Some (view self.now.object.now))) }
         ensures among { IfOk result (IsAmong (length self.now.names.now)) }
         ensures faults { IfErr result IsScriptFault }
+        ensures bad { OnlyWhereNone result (λ step. IsStepObject self.now.names.now step (Some (view self.now.object.now))) }
     {
         has_only(self.object, &["do", "on", "channel", "denom"])?;
         Ok(Step::Totals {
@@ -74,6 +81,7 @@ impl StepReader<'_> {
         ensures step { IfOk result (λ step. IsStepObject self.now.names.now step (Some (view self.now.object.now))) }
         ensures among { IfOk result (IsAmong (length self.now.names.now)) }
         ensures faults { IfErr result IsScriptFault }
+        ensures bad { OnlyWhereNone result (λ step. IsStepObject self.now.names.now step (Some (view self.now.object.now))) }
     {
         has_only(self.object, &["do", "chains", "app"])?;
         let (first, second) = self.two_chains("chains")?;
@@ -89,6 +97,7 @@ impl StepReader<'_> {
         ensures step { IfOk result (λ step. IsStepObject self.now.names.now step (Some (view self.now.object.now))) }
         ensures among { IfOk result (IsAmong (length self.now.names.now)) }
         ensures faults { IfErr result IsScriptFault }
+        ensures bad { OnlyWhereNone result (λ step. IsStepObject self.now.names.now step (Some (view self.now.object.now))) }
     {
         has_only(self.object, &["do", "chains", "turns"])?;
         let (first, second) = self.two_chains("chains")?;
@@ -104,6 +113,7 @@ impl StepReader<'_> {
         ensures draft { IfOk result (IsDraft kind.now self.now.names.now (view self.now.object.now)) }
         ensures among { IfOk result (IsDraftAmong (length self.now.names.now)) }
         ensures faults { IfErr result IsScriptFault }
+        ensures bad { OnlyWhereNone result (IsDraft kind.now self.now.names.now (view self.now.object.now)) }
     {
         if kind.ends_with("Client") {
             self.client_draft(kind).map(Draft::Client)
@@ -121,6 +131,7 @@ impl StepReader<'_> {
         ensures step { IfOk result (λ step. IsStepObject self.now.names.now step (Some (view self.now.object.now))) }
         ensures among { IfOk result (IsAmong (length self.now.names.now)) }
         ensures faults { IfErr result IsScriptFault }
+        ensures bad { IsErrOf result Fault.BadScript → (on : ℕ) (draft : Draft) → ¬ IsStepObject self.now.names.now (any_step.Message on draft) (Some (view self.now.object.now)) }
     {
         Ok(Step::Message {
             on: self.chain("on")?,
@@ -132,6 +143,7 @@ impl StepReader<'_> {
         ensures step { IfOk result (λ step. IsStepObject self.now.names.now step (Some (view self.now.object.now))) }
         ensures among { IfOk result (IsAmong (length self.now.names.now)) }
         ensures faults { IfErr result IsScriptFault }
+        ensures bad { OnlyWhereNone result (λ step. IsStepObject self.now.names.now step (Some (view self.now.object.now))) }
     {
         match text(self.object, "do")? {
             "Block" => self.block(),
@@ -147,11 +159,13 @@ impl StepReader<'_> {
 
 /// The steps of a script, each of which names chains of the script alone.
 pub fn read_steps(alloc: Global, names: &[ChainName], values: &[Value]) -> Result<Vec<Step>, Fault>
-    requires { length names.now ≤ 8 }
+    requires few { length names.now ≤ 8 }
+    requires different { AreDifferent names.now }
     ensures steps { IfOk result (λ steps. AreEach (IsStepObject names.now) steps.items (map view values.now)) }
     ensures few { IfOk result (λ steps. length steps.items ≤ 10000) }
     ensures among { IfOk result (λ steps. All (IsAmong (length names.now)) steps.items) }
     ensures faults { IfErr result IsScriptFault }
+    ensures bad { IsErrOf result Fault.BadScript → (steps : List Step) → length steps ≤ 10000 → ¬ AreEach (IsStepObject names.now) steps (map view values.now) }
 {
     if values.len() > MOST_STEPS {
         return Err(Fault::BadScript);
