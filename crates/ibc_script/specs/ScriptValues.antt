@@ -43,6 +43,10 @@ use Rattle.ibc_script.specs.declared.script.Step.TheVariants as step
 abbrev pub IsText : Text → Option Data → Type 0
 IsText text found = option_and_then as_str found ≡ Some text
 
+-- no text is found
+abbrev pub IsNoText : Option Data → Type 0
+IsNoText found = (text : Text) → ¬ IsText text found
+
 -- a text that has this form
 abbrev pub IsName : (Text → Bool) → Text → Option Data → Type 0
 IsName form name found = IsText name found × IsTrue (form name)
@@ -76,6 +80,10 @@ IsNumberIfThere (Some n) found = IsNumber n found
 abbrev pub IsTextIfThere : Text → Option Data → Type 0
 IsTextIfThere text found = ((found ≡ None) × (text ≡ [])) ⊎ IsText text found
 
+-- something is found that is no text
+abbrev pub IsNoTextIfThere : Option Data → Type 0
+IsNoTextIfThere found = (text : Text) → ¬ IsTextIfThere text found
+
 abbrev pub IsMemo : Text → Option Data → Type 0
 IsMemo memo found = IsTextIfThere memo found × IsTrue (is_memo memo)
 
@@ -85,6 +93,14 @@ IsAmount amount found = IsText (decimal amount) found × (amount < 2 ^ 128)
 
 abbrev pub IsNote : Text → Option Data → Type 0
 IsNote bytes found = IsText (encode_of standard bytes) found × IsBytes bytes
+
+-- the text writes no amount below 2^128
+abbrev pub IsNoAmount : Text → Type 0
+IsNoAmount text = (amount : ℕ) → amount < 2 ^ 128 → text ≢ decimal amount
+
+-- the text writes no bytes in base64
+abbrev pub IsNoNote : Text → Type 0
+IsNoNote text = (bytes : List ℕ) → IsBytes bytes → text ≢ encode_of standard bytes
 
 abbrev pub IsPath : Key → Option Data → Type 0
 IsPath key found = IsText (path key) found × IsTrue (is_key key)
@@ -330,3 +346,7 @@ IsScript content given =
 abbrev pub IsScriptText : Text → ScriptContent → Type 0
 IsScriptText text content =
     (length text ≤ 1048576) × IsUtf8 text × (value : Data) × (read text ≡ Some value) × IsScript content value
+
+-- the text is no script
+abbrev pub IsNoScriptText : Text → Type 0
+IsNoScriptText text = (content : ScriptContent) → ¬ IsScriptText text content

@@ -1,11 +1,11 @@
 //! Scripts are read from JSON.
 
-ghost use Rattle.std.specs.Prelude.{◌≡◌, ◌<◌, ◌^◌, None, Some, codes, decimal, length, IfErr, IfOk, IsErrOf, IsTrue, IsUtf8};
-ghost use Rattle.serde_json.specs.Find.{get};
+ghost use Rattle.std.specs.Prelude.{◌≡◌, ◌<◌, ◌^◌, None, Some, decimal, length, IfErr, IfOk, IsErrOf, IsTrue, IsUtf8};
 ghost use Rattle.serde_json.specs.Read.{read};
 ghost use Rattle.serde_json.specs.View.{view};
 ghost use Rattle.ibc_script.specs.Faults.{IsScriptFault, OnlyWhereNone};
-ghost use Rattle.ibc_script.specs.ScriptValues.{IsAmount, IsName, IsScript, IsScriptText, IsWindow, ScriptContent, content_of};
+ghost use Rattle.ibc_script.specs.ReadValues.{IsNoScript, IsWindowIn};
+ghost use Rattle.ibc_script.specs.ScriptValues.{IsAmount, IsName, IsNoScriptText, IsScript, IsScriptText, content_of};
 
 mod chains;
 mod channels;
@@ -88,7 +88,7 @@ pub fn read_script(alloc: Global, bytes: &[u8]) -> Result<Script, Fault>
     ensures script { IfOk result (λ script. IsScriptText bytes.now (content_of script)) }
     ensures too_long { 1048576 < length bytes.now → IsErrOf result Fault.BadScript }
     ensures faults { IfErr result IsScriptFault }
-    ensures bad { IsErrOf result Fault.BadScript → (content : ScriptContent) → ¬ IsScriptText bytes.now content }
+    ensures bad { IsErrOf result Fault.BadScript → IsNoScriptText bytes.now }
 {
     if bytes.len() > MOST_BYTES {
         return Err(Fault::BadScript);
@@ -101,9 +101,9 @@ pub fn read_script(alloc: Global, bytes: &[u8]) -> Result<Script, Fault>
 
 // How many heights the chains of a script keep.
 fn read_window(script: &Value, capacity: u64) -> Result<u64, Fault>
-    ensures window { IfOk result (λ window. IsWindow capacity window (get (codes "window") (view script.now))) }
+    ensures window { IfOk result (IsWindowIn script.now capacity) }
     ensures faults { IfErr result IsScriptFault }
-    ensures bad { OnlyWhereNone result (λ window. IsWindow capacity window (get (codes "window") (view script.now))) }
+    ensures bad { OnlyWhereNone result (IsWindowIn script.now capacity) }
 {
     match optional_number(script, "window")? {
         Some(window) => Ok(window),
@@ -115,7 +115,7 @@ fn read_window(script: &Value, capacity: u64) -> Result<u64, Fault>
 fn read_members(alloc: Global, script: &Value) -> Result<Script, Fault>
     ensures script { IfOk result (λ read. IsScript (content_of read) (view script.now)) }
     ensures faults { IfErr result IsScriptFault }
-    ensures bad { IsErrOf result Fault.BadScript → (content : ScriptContent) → ¬ IsScript content (view script.now) }
+    ensures bad { IsErrOf result Fault.BadScript → IsNoScript script.now }
 {
     has_only(script, &["capacity", "window", "chains", "steps"])?;
     let capacity = number(script, "capacity")?;

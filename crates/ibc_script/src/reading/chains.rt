@@ -1,11 +1,10 @@
 //! The chains of a script, and how they begin.
 
-ghost use Rattle.std.specs.Prelude.{◌≡◌, ◌≤◌, ℕ, Some, false, true, length, map, slice_get, zip, IfOk, IfErr, IsErrOf, List};
+ghost use Rattle.std.specs.Prelude.{◌≡◌, ◌≤◌, ℕ, Some, false, true, length, slice_get, IfOk, IfErr, IsErrOf};
 ghost use Rattle.serde_json.specs.View.{view};
-ghost use Rattle.ibc_ids.specs.Texts.{Text};
-ghost use Rattle.ibc_machine.specs.chain.Genesis.{ChainState, Holding, chain_state};
 ghost use Rattle.ibc_script.specs.Faults.{IsScriptFault, OnlyWhereNone};
-ghost use Rattle.ibc_script.specs.ScriptValues.{AreChainStarts, AreDifferent, AreEach, IsChainStart, IsHolding};
+ghost use Rattle.ibc_script.specs.ReadValues.{AreChainStartsOf, AreEachOf, AreNoChainStarts, AreNoHoldings, IsNoChainStart, IsStartOf};
+ghost use Rattle.ibc_script.specs.ScriptValues.{AreDifferent, IsHolding};
 
 use super::{item_amount, item_name, parse_name};
 use crate::members::{has_only, item_list, list, number, text};
@@ -30,9 +29,9 @@ fn read_balance(alloc: Global, value: &Value) -> Result<(UserName, Denom, u128),
 }
 
 fn read_balances(alloc: Global, values: &[Value]) -> Result<Vec<(UserName, Denom, u128)>, Fault>
-    ensures holdings { IfOk result (λ balances. AreEach IsHolding balances.items (map view values.now)) }
+    ensures holdings { IfOk result (λ balances. AreEachOf IsHolding balances.items values.now) }
     ensures faults { IfErr result IsScriptFault }
-    ensures bad { IsErrOf result Fault.BadScript → (balances : List Holding) → ¬ AreEach IsHolding balances (map view values.now) }
+    ensures bad { IsErrOf result Fault.BadScript → AreNoHoldings values.now }
 {
     let mut balances = Vec::with_capacity(alloc, values.len())?;
     for value in values {
@@ -42,9 +41,9 @@ fn read_balances(alloc: Global, values: &[Value]) -> Result<Vec<(UserName, Denom
 }
 
 fn read_chain(alloc: Global, value: &Value) -> Result<(ChainName, ChainStart), Fault>
-    ensures start { IfOk result (λ read. IsChainStart (read.0, chain_state read.1) (Some (view value.now))) }
+    ensures start { IfOk result (IsStartOf value.now) }
     ensures faults { IfErr result IsScriptFault }
-    ensures bad { IsErrOf result Fault.BadScript → (start : Text × ChainState) → ¬ IsChainStart start (Some (view value.now)) }
+    ensures bad { IsErrOf result Fault.BadScript → IsNoChainStart value.now }
 {
     has_only(value, &["name", "time", "balances"])?;
     let time = number(value, "time")?;
@@ -67,12 +66,12 @@ pub fn read_chains(
     alloc: Global,
     values: &[Value],
 ) -> Result<(Vec<ChainName>, Vec<ChainStart>), Fault>
-    ensures starts { IfOk result (λ r. AreEach IsChainStart (zip r.0.items (map chain_state r.1.items)) (map view values.now)) }
+    ensures starts { IfOk result (AreChainStartsOf values.now) }
     ensures different { IfOk result (λ r. AreDifferent r.0.items) }
     ensures named { IfOk result (λ r. length r.0.items ≡ length r.1.items) }
     ensures few { IfOk result (λ r. length r.0.items ≤ 8) }
     ensures faults { IfErr result IsScriptFault }
-    ensures bad { IsErrOf result Fault.BadScript → (names : List Text) (starts : List ChainState) → ¬ AreChainStarts names starts (map view values.now) }
+    ensures bad { IsErrOf result Fault.BadScript → AreNoChainStarts values.now }
 {
     if values.len() > MOST_CHAINS {
         return Err(Fault::BadScript);

@@ -1,15 +1,14 @@
 //! The steps that send tokens.
 
-ghost use Rattle.std.specs.Prelude.{List, Some, codes, length, map, IfOk, IfErr, IsErrOf, IsTrue};
-ghost use Rattle.serde_json.specs.Find.{get};
+ghost use Rattle.std.specs.Prelude.{Some, codes, length, IfOk, IfErr, IsErrOf, IsTrue};
 ghost use Rattle.serde_json.specs.View.{view};
 ghost use Rattle.ibc_ids.specs.Names.{is_channel, is_receiver, is_user};
 ghost use Rattle.ibc_wire.specs.Tokens.{is_listed};
-ghost use Rattle.ibc_wire.specs.declared.token.Token.{Token};
 ghost use Rattle.ibc_script.specs.Faults.{IsScriptFault, OnlyWhereNone};
-ghost use Rattle.ibc_script.specs.ScriptValues.{AreEach, AreFields, IsDraft, IsMemo, IsName, IsToken, sending_fields, timeout_fields};
-ghost use Rattle.ibc_script.specs.declared.draft.Draft.TheVariants as any_draft;
+ghost use Rattle.ibc_script.specs.ReadValues.{AreEachOf, AreNoTokens};
+ghost use Rattle.ibc_script.specs.ScriptValues.{IsMemo, IsToken};
 ghost use Rattle.ibc_script.specs.Scripts.{IsPacketAmong};
+ghost use Rattle.ibc_script.specs.StepReading.{HasName, HasSending, HasTimeouts, IsPacketDraft, member_at};
 
 use super::step_reader::StepReader;
 use super::{item_amount, item_name, parse_name, read_amount};
@@ -36,10 +35,10 @@ fn read_token(alloc: Global, value: &Value) -> Result<Token, Fault>
 }
 
 fn read_tokens(alloc: Global, values: &[Value]) -> Result<Tokens, Fault>
-    ensures tokens { IfOk result (λ tokens. AreEach IsToken tokens (map view values.now)) }
+    ensures tokens { IfOk result (λ tokens. AreEachOf IsToken tokens values.now) }
     ensures listed { IfOk result (λ tokens. IsTrue (is_listed tokens)) }
     ensures faults { IfErr result IsScriptFault }
-    ensures bad { IsErrOf result Fault.BadScript → (tokens : List Token) → IsTrue (is_listed tokens) → ¬ AreEach IsToken tokens (map view values.now) }
+    ensures bad { IsErrOf result Fault.BadScript → AreNoTokens values.now }
 {
     let mut tokens = Vec::with_capacity(alloc, values.len())?;
     for value in values {
@@ -66,21 +65,21 @@ struct Sending {
 impl StepReader<'_> {
     /// The memo of a transfer, the empty one where the step has none.
     fn memo(&self) -> Result<Memo, Fault>
-        ensures memo { IfOk result (λ memo. IsMemo memo (get (codes "memo") (view self.now.object.now))) }
+        ensures memo { IfOk result (λ memo. IsMemo memo (member_at self.now (codes "memo"))) }
         ensures faults { IfErr result IsScriptFault }
-        ensures bad { OnlyWhereNone result (λ memo. IsMemo memo (get (codes "memo") (view self.now.object.now))) }
+        ensures bad { OnlyWhereNone result (λ memo. IsMemo memo (member_at self.now (codes "memo"))) }
     {
         parse_name(self.alloc, text_or_empty(self.object, "memo")?)
     }
 
     fn sending(&self) -> Result<Sending, Fault>
-        ensures channel { IfOk result (λ s. IsName is_channel s.channel (get (codes "channel") (view self.now.object.now))) }
-        ensures user { IfOk result (λ s. IsName is_user s.user (get (codes "user") (view self.now.object.now))) }
-        ensures receiver { IfOk result (λ s. IsName is_receiver s.receiver (get (codes "receiver") (view self.now.object.now))) }
-        ensures memo { IfOk result (λ s. IsMemo s.memo (get (codes "memo") (view self.now.object.now))) }
-        ensures timeouts { IfOk result (λ s. AreFields (timeout_fields s.timeout_height s.timeout_time) (view self.now.object.now)) }
+        ensures channel { IfOk result (λ s. HasName self.now (codes "channel") is_channel s.channel) }
+        ensures user { IfOk result (λ s. HasName self.now (codes "user") is_user s.user) }
+        ensures receiver { IfOk result (λ s. HasName self.now (codes "receiver") is_receiver s.receiver) }
+        ensures memo { IfOk result (λ s. IsMemo s.memo (member_at self.now (codes "memo"))) }
+        ensures timeouts { IfOk result (λ s. HasTimeouts self.now s.timeout_height s.timeout_time) }
         ensures faults { IfErr result IsScriptFault }
-        ensures bad { OnlyWhereNone result (λ s. AreFields (sending_fields s.channel s.user s.receiver s.memo s.timeout_height s.timeout_time) (view self.now.object.now)) }
+        ensures bad { OnlyWhereNone result (HasSending self.now) }
     {
         Ok(Sending {
             timeout_height: self.number("timeout_height")?,
@@ -93,10 +92,10 @@ impl StepReader<'_> {
     }
 
     pub fn transfer(&self) -> Result<PacketDraft, Fault>
-        ensures draft { IfOk result (λ d. IsDraft (codes "Transfer") self.now.names.now (view self.now.object.now) (any_draft.Packet d)) }
+        ensures draft { IfOk result (IsPacketDraft self.now (codes "Transfer")) }
         ensures among { IfOk result (IsPacketAmong (length self.now.names.now)) }
         ensures faults { IfErr result IsScriptFault }
-        ensures bad { OnlyWhereNone result (λ d. IsDraft (codes "Transfer") self.now.names.now (view self.now.object.now) (any_draft.Packet d)) }
+        ensures bad { OnlyWhereNone result (IsPacketDraft self.now (codes "Transfer")) }
     {
         has_only(
             self.object,
@@ -129,10 +128,10 @@ impl StepReader<'_> {
     }
 
     pub fn transfer_many(&self) -> Result<PacketDraft, Fault>
-        ensures draft { IfOk result (λ d. IsDraft (codes "TransferMany") self.now.names.now (view self.now.object.now) (any_draft.Packet d)) }
+        ensures draft { IfOk result (IsPacketDraft self.now (codes "TransferMany")) }
         ensures among { IfOk result (IsPacketAmong (length self.now.names.now)) }
         ensures faults { IfErr result IsScriptFault }
-        ensures bad { OnlyWhereNone result (λ d. IsDraft (codes "TransferMany") self.now.names.now (view self.now.object.now) (any_draft.Packet d)) }
+        ensures bad { OnlyWhereNone result (IsPacketDraft self.now (codes "TransferMany")) }
     {
         has_only(
             self.object,
