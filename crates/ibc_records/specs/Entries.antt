@@ -30,10 +30,6 @@ new_entries port id end next =
 
 -- ---- what a change leaves of a store, whose other fields stay but for room
 
--- it has the value at the path
-abbrev pub SetsPath : StoreModel → Text → Text → StoreModel → Type 0
-SetsPath old place value new = new ≡ record old { pairs = with text_cmp place value old.pairs; room = new.room }
-
 -- it has these values at these paths
 abbrev pub SetsPaths : StoreModel → Pairs → StoreModel → Type 0
 SetsPaths old entries new = new ≡ record old { pairs = with_all entries old.pairs; room = new.room }

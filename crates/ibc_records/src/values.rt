@@ -4,8 +4,8 @@ ghost use Rattle.std.specs.Prelude.{◌≡◌, ◌<◌, ◌≤◌, ◌+◌, ◌+
 ghost use Rattle.ibc_ids.specs.Paths.{path};
 ghost use Rattle.ibc_ids.specs.declared.refusal.Refusal.TheVariants.{NoMemory};
 ghost use Rattle.ibc_wire.specs.Spelling.{connection_end_bytes, channel_end_bytes};
+ghost use Rattle.ibc_path_store.specs.StoreChanges.{SetsPath};
 ghost use Rattle.ibc_machine.specs.ics24.Values.{value_bytes, NumberIs, ClientIs, ConnectionIs, ChannelIs};
-ghost use Rattle.ibc_records.specs.Entries.{SetsPath};
 
 use ibc_ids::{Bytes, Key, Refusal};
 use ibc_path_store::Store;
@@ -18,7 +18,7 @@ use std::alloc::Global;
 /// Sets the value of a path, for which there is room.
 pub fn set_reserved(store: &mut Store, path: String, value: Bytes)
     requires { 0 < store.old.room }
-    ensures set { SetsPath store.old (string_bytes path) value store.new }
+    ensures set { SetsPath path value store.old store.new }
     ensures room { store.old.room ≤ store.new.room + 1 }
 {
     let _ = store.set(path, value);

@@ -15,9 +15,9 @@ abbrev pub notes_of : Text × Vec Text → Text × List Text
 notes_of (channel, notes) = (channel, notes.items)
 
 -- the balances of a list, in its order
-abbrev pub balances_in : Vec (Account × Text × ℕ) → Balances
-balances_in list = map holding_of list.items
+abbrev pub listed_balances : Vec (Account × Text × ℕ) → Balances
+listed_balances list = map holding_of list.items
 
 -- the notes of a list, in its order
-abbrev pub notes_in : Vec (Text × Vec Text) → List (Text × List Text)
-notes_in list = map notes_of list.items
+abbrev pub listed_notes : Vec (Text × Vec Text) → List (Text × List Text)
+listed_notes list = map notes_of list.items

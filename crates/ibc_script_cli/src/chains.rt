@@ -1,7 +1,7 @@
 //! The chains that the steps of a script are run on.
 
 ghost use Rattle.std.specs.Prelude.{IfOk};
-ghost use Rattle.ibc_script_cli.specs.Balances.{balances_in, notes_in};
+ghost use Rattle.ibc_script_cli.specs.Balances.{listed_balances, listed_notes};
 ghost use Rattle.ibc_script_cli.specs.ScriptChains.{ArePlans, ScriptChains, any_chains};
 
 use ibc_ids::{Account, Bytes, ChannelId, Denom, Key, PortId, Refusal, Root};
@@ -78,10 +78,10 @@ pub trait Holdings: Chains {
 
     /// The amounts above 0 on a chain, by account and then denomination, in the byte order of their texts.
     fn balances(&self, chain: u8) -> Result<Vec<(Account, Denom, u128)>, Refusal>
-        ensures { IfOk result (λ list. (Self.known.answers self.now).balances chain (balances_in list)) };
+        ensures { IfOk result (λ list. (Self.known.answers self.now).balances chain (listed_balances list)) };
 
     /// The notes that came over each channel of a chain, in the order in which they came: the channels that have some,
     /// in the byte order of their texts.
     fn notes(&self, chain: u8) -> Result<Vec<(ChannelId, Vec<Bytes>)>, Refusal>
-        ensures { IfOk result (λ list. (Self.known.answers self.now).notes chain (notes_in list)) };
+        ensures { IfOk result (λ list. (Self.known.answers self.now).notes chain (listed_notes list)) };
 }
