@@ -120,14 +120,14 @@ FillsEmpty shows old new genesis result =
     → IsJournal (shows new).now genesis [] × GoesOn (shows old) (shows new))
 
 -- where it goes well, there is the first table, and it has no rows
-abbrev pub MakesMeta : {S A E : Type 0} → (Held S → State) → Held S → Held S → Result A E → Type 0
-MakesMeta shows old new result =
+abbrev pub MakesMetaTable : {S A E : Type 0} → (Held S → State) → Held S → Held S → Result A E → Type 0
+MakesMetaTable shows old new result =
     HasCleanDisk (shows new) → OnOk result ((shows old).now.schema ≡ no_schema → ((shows new).now.schema ≡ meta_schema)
     × ((shows new).now.trees 0 ≡ []) × (IsTrue (shows old).in_transaction → GoesOn (shows old) (shows new)))
 
 -- where it goes well, there are both tables, and they have no rows
-abbrev pub MakesEntries : {S A E : Type 0} → (Held S → State) → Held S → Held S → Result A E → Type 0
-MakesEntries shows old new result =
+abbrev pub MakesEntryTable : {S A E : Type 0} → (Held S → State) → Held S → Held S → Result A E → Type 0
+MakesEntryTable shows old new result =
     HasCleanDisk (shows new) → OnOk result ((shows old).now.schema ≡ meta_schema → (shows old).now.trees 0 ≡ []
     → ((shows new).now.schema ≡ journal_schema) × ((shows new).now.trees 0 ≡ []) × ((shows new).now.trees 1 ≡ [])
     × (IsTrue (shows old).in_transaction → GoesOn (shows old) (shows new)))

@@ -136,8 +136,8 @@ abbrev pub IsNotPassed : Cursor → JournalItem → JournalFault → Type 0
 IsNotPassed before it = λ fault. (fault ≡ Full) ⊎ ((fault ≡ Damaged before.place) × (it.digest ≢ digest_after before.last it))
 
 -- the entry that the first row shows, or none where there is no row
-abbrev pub ShowsFirst : {E : Type 0} → List Row → Result (Option JournalEntry) E → Type 0
-ShowsFirst rows result = (o : Option JournalItem) → rows ≡ shown_rows o → IfOk result (λ found. option_map item found ≡ o)
+abbrev pub ShowsFirstEntry : {E : Type 0} → List Row → Result (Option JournalEntry) E → Type 0
+ShowsFirstEntry rows result = (o : Option JournalItem) → rows ≡ shown_rows o → IfOk result (λ found. option_map item found ≡ o)
 
 -- how a journal began, of which the only row shows it
 abbrev pub ShowsOnlyBeginning : {E : Type 0} → List Row → Result Beginning E → Type 0

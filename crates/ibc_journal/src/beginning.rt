@@ -3,7 +3,7 @@
 ghost use Rattle.sqlite.specs.Held.{state};
 ghost use Rattle.ibc_journal.specs.Tables.{no_schema, meta_schema, journal_schema};
 ghost use Rattle.ibc_journal.specs.Crashes.{LeavesBegun};
-ghost use Rattle.ibc_journal.specs.Changes.{CommitsBeginning, CommitsNone, CommitsNoneOfEmpty, CommitsNoneOfEmptyInside, CrashLeaves, EndsOpen, EndsOutside, FillsEmpty, LastsAsBegun, LeavesOutsideOf, MakesEntries, MakesMeta, PutsBeginning, SeesCommitted};
+ghost use Rattle.ibc_journal.specs.Changes.{CommitsBeginning, CommitsNone, CommitsNoneOfEmpty, CommitsNoneOfEmptyInside, CrashLeaves, EndsOpen, EndsOutside, FillsEmpty, LastsAsBegun, LeavesOutsideOf, MakesEntryTable, MakesMetaTable, PutsBeginning, SeesCommitted};
 
 use crate::adding::{commit, start};
 use crate::digests::FORMAT;
@@ -44,7 +44,7 @@ fn fill<S: Alter>(conn: &mut Connection<S>, genesis: &[u8]) -> Result<(), Error>
 
 // Makes the first table.
 fn make_meta<S: Alter>(conn: &mut Connection<S>) -> Result<usize, Error>
-    ensures made { MakesMeta (state S.Store) conn.old conn.new result }
+    ensures made { MakesMetaTable (state S.Store) conn.old conn.new result }
     ensures none { CommitsNone (state S.Store) conn.old conn.new result }
     ensures crash { CrashLeaves (state S.Store) conn.old conn.new (LeavesOutsideOf no_schema) }
 {
@@ -56,7 +56,7 @@ fn make_meta<S: Alter>(conn: &mut Connection<S>) -> Result<usize, Error>
 
 // Makes the second table.
 fn make_entries<S: Alter>(conn: &mut Connection<S>) -> Result<usize, Error>
-    ensures made { MakesEntries (state S.Store) conn.old conn.new result }
+    ensures made { MakesEntryTable (state S.Store) conn.old conn.new result }
     ensures none { CommitsNone (state S.Store) conn.old conn.new result }
     ensures crash { CrashLeaves (state S.Store) conn.old conn.new (LeavesOutsideOf meta_schema) }
 {

@@ -9,7 +9,7 @@ ghost use Rattle.ibc_journal.specs.Digests.{HasReadTo};
 ghost use Rattle.ibc_journal.specs.Faults.{IsOfReading, IsOfEnding};
 ghost use Rattle.ibc_journal.specs.Changes.{CrashLeaves};
 ghost use Rattle.ibc_journal.specs.Crashes.{LeavesNothing};
-ghost use Rattle.ibc_journal.specs.Reads.{AuditsDamage, AuditsFull, AuditsNoGap, AuditsWhole, EndsBefore, FindsAt, FindsEndAt, FindsNoMore, FindsNoneEarly, IsNotPassed, LeavesTheSame, PassesOver, ReadsNext, ShowsFirst, TellsDamage, TellsFull, TellsNoEarly, TellsNoGapAt};
+ghost use Rattle.ibc_journal.specs.Reads.{AuditsDamage, AuditsFull, AuditsNoGap, AuditsWhole, EndsBefore, FindsAt, FindsEndAt, FindsNoMore, FindsNoneEarly, IsNotPassed, LeavesTheSame, PassesOver, ReadsNext, ShowsFirstEntry, TellsDamage, TellsFull, TellsNoEarly, TellsNoGapAt};
 
 use crate::digests::{digest_after, first_digest};
 use crate::{JournalEntry, JournalFault};
@@ -173,7 +173,7 @@ pub fn entry_at<S: Alter>(
 
 // The entry that the first row shows, if there is one.
 fn first_of(rows: &[Row]) -> Result<Option<JournalEntry>, Error>
-    ensures { ShowsFirst rows.now result }
+    ensures { ShowsFirstEntry rows.now result }
 {
     match rows {
         [] => Ok(None),
