@@ -1,6 +1,5 @@
 //! The data of packets of tokens, taken apart.
 
-ghost use Rattle.std.specs.Prelude.{◌≡◌};
 ghost use Rattle.ibc_calls.specs.CallAnswers.{Numbered};
 ghost use Rattle.ibc_calls.specs.TokenReads.{FindsDataPart, TellsDataCount, TellsDataToken, token_output};
 ghost use Rattle.ibc_c.specs.Codes.{NumbersFound};

@@ -65,7 +65,7 @@ fn stands_at(packets: &[Packet], place: usize, packet: &Packet) -> bool
 
 impl Lane {
     ghost use Rattle.ibc_law_checks.specs.MovedLanes.{IsPassed};
-    ghost use Rattle.ibc_law_checks.specs.Lanes.{Holds, IsLawfulLane, broken_by_acknowledging, broken_by_receiving, broken_by_sending, broken_by_timing_out, is_next, is_settled, new_lane, was_sent, with_acknowledged, with_received, with_sent, with_timed_out};
+    ghost use Rattle.ibc_law_checks.specs.Lanes.{IsLawfulLane, broken_by_acknowledging, broken_by_receiving, broken_by_sending, broken_by_timing_out, is_next, is_settled, new_lane, was_sent, with_acknowledged, with_received, with_sent, with_timed_out};
 
     /// The lane of a channel over which nothing has gone.
     pub fn new(alloc: Global, ordered: bool) -> Lane
