@@ -2,7 +2,7 @@
 use Rattle.std.specs.Prelude.{ℕ, codes, Bool, false, List, [], ◌∷◌, Option, Some, None, option_map, option_and_then, unwrap_or, map, String, string_bytes}
 use Rattle.std.specs.Borrow.{Bor}
 use Rattle.std.specs.BTreeMap.{BTreeMap, keys}
-use Rattle.std.specs.Global.{Global}
+use Rattle.std.specs.declared.alloc.Global.{Global}
 use Rattle.serde_json.specs.Data.{Data, Items, no_items, item, Members, no_members, member}
 use Rattle.serde_json.specs.Find.{get, at, as_array, as_number, as_str, as_u64}
 use Rattle.serde_json.specs.View.{view}
