@@ -3,7 +3,7 @@
 ghost use Rattle.std.specs.Prelude.{◌≡◌, ◌+◌, ◌^◌, ◌<◌, ◌≤◌, vec_len, vec_capacity, slice_index_or, IsTrue, IfOk};
 ghost use Rattle.std.specs.FinMap.{is_sorted};
 ghost use Rattle.ibc_ids.specs.Texts.{text_cmp};
-ghost use Rattle.ibc_merkle.specs.Written.{IsPathTo};
+ghost use Rattle.ibc_merkle.specs.PlacedProofs.{IsPathTo};
 ghost use Rattle.ibc_forest.specs.Heights.{pairs_of, IsTreeOver};
 
 use crate::node::Below;

@@ -3,7 +3,8 @@
 ghost use Rattle.std.specs.Prelude.{◌≡◌, ◌<◌, ◌≤◌, Some, IsTrue, IfOk};
 ghost use Rattle.std.specs.FinMap.{is_sorted};
 ghost use Rattle.ibc_ids.specs.Texts.{text_cmp};
-ghost use Rattle.ibc_merkle.specs.Written.{written_proof, own_proof, left_proof};
+ghost use Rattle.ibc_merkle.specs.PlacedProofs.{own_proof, left_proof};
+ghost use Rattle.ibc_merkle.specs.Written.{written_proof};
 ghost use Rattle.ibc_forest.specs.Heights.{pairs_of, IsTreeOver};
 
 use crate::descent::{entry_at, operations_from};

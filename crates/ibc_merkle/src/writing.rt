@@ -6,7 +6,8 @@ ghost use Rattle.ibc_ids.specs.Texts.{text_cmp};
 ghost use Rattle.ibc_ids.specs.Maps.{at};
 ghost use Rattle.ibc_ids.specs.declared.refusal.Refusal.TheVariants.{NoMemory};
 ghost use Rattle.ibc_merkle.specs.NodeDigests.{digests_of};
-ghost use Rattle.ibc_merkle.specs.Written.{written_proof, AddsPathTo, own_proof, left_proof};
+ghost use Rattle.ibc_merkle.specs.PlacedProofs.{AddsPathTo, own_proof, left_proof};
+ghost use Rattle.ibc_merkle.specs.Written.{written_proof};
 
 use crate::affix::Affix;
 use crate::entry::KeyValue;
