@@ -65,7 +65,7 @@ impl Bank {
     /// and all amounts of a denomination fit 128 bits together.
     pub fn from_start(alloc: Global, start: &ChainStart) -> Result<Bank, AllocError>
         requires { IsTrue (list_all (is_fair start.now.balances.items) start.now.balances.items) }
-        ensures balances { IfOk result (λ bank. bank.balances ≡ starting_balances start.now.balances.items) }
+        ensures balances { IfOk result (λ it. it.balances ≡ starting_balances start.now.balances.items) }
         ensures burnt { IfOk result (λ bank. bank.burnt ≡ []) }
     {
         let holdings = start.balances.as_slice();

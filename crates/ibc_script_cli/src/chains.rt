@@ -78,7 +78,7 @@ pub trait Holdings: Chains {
 
     /// The amounts above 0 on a chain, by account and then denomination, in the byte order of their texts.
     fn balances(&self, chain: u8) -> Result<Vec<(Account, Denom, u128)>, Refusal>
-        ensures { IfOk result (λ list. (Self.known.answers self.now).balances chain (listed_balances list)) };
+        ensures { IfOk result (λ it. (Self.known.answers self.now).balances chain (listed_balances it)) };
 
     /// The notes that came over each channel of a chain, in the order in which they came: the channels that have some,
     /// in the byte order of their texts.
