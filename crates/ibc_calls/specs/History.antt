@@ -63,6 +63,7 @@ pub record ReplyOutput : Type 0 where
   pub bytes : Text
   pub size : ℕ
 
+-- a reply's code, its bytes, and how many they are
 abbrev pub reply_output : ReplyCode → Text → ℕ → ReplyOutput
 reply_output told bytes size = record { told = told; bytes = bytes; size = size }
 
@@ -106,6 +107,7 @@ pub record EventOutput : Type 0 where
   pub bytes : Text
   pub size : ℕ
 
+-- an event's code, its bytes, and how many they are
 abbrev pub event_output : EventCode → Text → ℕ → EventOutput
 event_output asked bytes size = record { asked = asked; bytes = bytes; size = size }
 

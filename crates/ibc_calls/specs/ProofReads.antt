@@ -44,6 +44,7 @@ pub record ProofOutput : Type 0 where
   pub bytes : Text
   pub size : ℕ
 
+-- a proof's height, its bytes, and how many they are
 abbrev pub proof_output : ℕ → Text → ℕ → ProofOutput
 proof_output height bytes size = record { height = height; bytes = bytes; size = size }
 

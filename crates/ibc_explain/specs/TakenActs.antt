@@ -12,9 +12,10 @@ abbrev pub HasTaken : List Text → List Act → Running → Running → Type 0
 HasTaken names acts old new =
     Reached world_chains names acts old.chains (Some old.text.items) [] new.chains (Some new.text.items)
 
--- these steps were taken in turn, or all was done that they make a run do
+-- these steps were taken in turn
 abbrev pub HasTakenEach : List Text → List Step → Running → Running → Type 0
 HasTakenEach names steps old new = HasTaken names (map Take steps) old new
 
+-- all was done that these steps make a run do
 abbrev pub HasTakenAll : List Text → List Step → Running → Running → Type 0
 HasTakenAll names steps old new = HasTaken names (acts_of steps (length names)) old new

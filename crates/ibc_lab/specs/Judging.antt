@@ -19,10 +19,11 @@ roll judge = map view judge.chains.now
 abbrev pub flaws : {A : Type 0} → Judge → (List Data → ScriptPlace → A → Data → List ScriptFault) → ScriptPlace → A → Value → List ScriptFault
 flaws judge faults place owed value = faults (roll judge) place owed (view value)
 
--- what is wrong with the items of a list: each of them is such a tuple, or has the form of its place
+-- what is wrong with the items of a list, of which each is such a tuple
 abbrev pub each_flaws : Judge → ScriptPlace → Tuple → List Value → List ScriptFault
 each_flaws judge place t items = each_faults (roll judge) place t 0 (map view items)
 
+-- what is wrong with the items of a list, of which each has the form of its place
 abbrev pub parts_flaws : Judge → ScriptPlace → List Leaf → List Value → List ScriptFault
 parts_flaws judge place leaves items = parts_faults (roll judge) place 0 leaves (map view items)
 

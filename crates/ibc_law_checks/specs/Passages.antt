@@ -23,14 +23,17 @@ IsTimedOut h packet =
 
 -- ---- whichever chain accepts a message
 
+-- the message receives the packet
 abbrev pub IsReceivedBy : Message → Option Packet → Type 0
 IsReceivedBy message packet =
     (chain : ℕ) (given : Effect) → IsReceived (event.Message chain message, reply.Ok given) packet
 
+-- the message has the packet acknowledged
 abbrev pub IsAcknowledgedBy : Message → Option Packet → Type 0
 IsAcknowledgedBy message packet =
     (chain : ℕ) (given : Effect) → IsAcknowledged (event.Message chain message, reply.Ok given) packet
 
+-- the message has the packet time out
 abbrev pub IsTimedOutBy : Message → Option Packet → Type 0
 IsTimedOutBy message packet =
     (chain : ℕ) (given : Effect) → IsTimedOut (event.Message chain message, reply.Ok given) packet

@@ -65,13 +65,15 @@ abbrev pub IsAckOf : {C : Type 0} → ScriptChains C → Completer C → ℕ →
 IsAckOf known completer chain p =
     (findings known completer).ack chain p.destination_port p.destination_channel p.sequence
 
--- the proofs of a packet's commitment, of its acknowledgement, and of the channel end that it is sent to
+-- the proof of a packet's commitment
 abbrev pub IsCommitmentProof : {C : Type 0} → ScriptChains C → Completer C → ProofSource → Packet → Option Text → Type 0
 IsCommitmentProof known completer from p = IsProofBytesAt (findings known completer) from (commitment_key p)
 
+-- the proof of a packet's acknowledgement
 abbrev pub IsAckProof : {C : Type 0} → ScriptChains C → Completer C → ProofSource → Packet → Option Text → Type 0
 IsAckProof known completer from p = IsProofBytesAt (findings known completer) from (ack_key p)
 
+-- the proof of the channel end that a packet is sent to
 abbrev pub IsEndProof : {C : Type 0} → ScriptChains C → Completer C → ProofSource → Packet → Option Text → Type 0
 IsEndProof known completer from p = IsProofBytesAt (findings known completer) from (destination_key p)
 

@@ -56,10 +56,11 @@ abbrev pub audited_notes : RaceAudit → ℕ → List (Text × List Text)
 audited_notes audit on =
     option_map_or (λ (list : Vec (Text × Vec Text)). map notes_of list.items) (slice_get audit.notes.items on) []
 
--- the lines of what an audit tells of a chain of this name
+-- the lines of what the accounts of a chain of this name have, as an audit tells it
 abbrev pub held_on : Text → RaceAudit → ℕ → Text
 held_on name audit on = balance_lines name (audited_balances audit on)
 
+-- the lines of its notes
 abbrev pub note_on : Text → RaceAudit → ℕ → Text
 note_on name audit on = note_lines name (audited_notes audit on)
 
@@ -72,10 +73,11 @@ abbrev pub audited_note_lines : List Text → RaceAudit → ℕ → ℕ → Text
 audited_note_lines names audit on many =
     flat_map (λ chain. note_lines (name_of names chain) (audited_notes audit chain)) (range_with_len on many)
 
--- the lines of all chains
+-- the lines of what the accounts of all chains have
 abbrev pub all_held : List Text → RaceAudit → Text
 all_held names audit = audited_balance_lines names audit 0 (length names)
 
+-- the lines of the notes of all chains
 abbrev pub all_noted : List Text → RaceAudit → Text
 all_noted names audit = audited_note_lines names audit 0 (length names)
 
@@ -115,10 +117,11 @@ HasRaced raced script before after = HasMore (IsRaceText raced script) before af
 abbrev pub HasRacedInPart : (GenesisState → List Step → RaceAudit → Type 0) → Script → Option Text → Option Text → Type 0
 HasRacedInPart raced script before after = HasMore (IsRaceBeginning raced script) before after
 
--- the same of an output by what it holds: it gains what an audit tells, or it is kept, or gains a beginning of that
+-- the same of an output by what it holds: it gains what an audit tells
 abbrev pub PrintsRace : {W : Type 0} → (GenesisState → List Step → RaceAudit → Type 0) → Script → (W → Option Text) → W → W → Type 0
 PrintsRace raced script contents old new = HasRaced raced script (contents old) (contents new)
 
+-- it is kept, or it gains a beginning of that
 abbrev pub PrintsRaceInPart : {W : Type 0} → (GenesisState → List Step → RaceAudit → Type 0) → Script → (W → Option Text) → W → W → Type 0
 PrintsRaceInPart raced script contents old new =
     Keeps (contents old) (contents new) ⊎ HasRacedInPart raced script (contents old) (contents new)

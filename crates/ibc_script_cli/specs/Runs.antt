@@ -218,10 +218,11 @@ WritesText (Err fault) old new text = IsCut old new text
 abbrev pub Emits : {T E W : Type 0} → (W → Option Text) → Result T E → W → W → Text → Type 0
 Emits contents result old new text = WritesText result (contents old) (contents new) text
 
--- the lines of what the accounts of a chain have, and of the notes that came over its channels
+-- the lines of what the accounts of a chain have
 abbrev pub held_text : Text → List (Account × Text × ℕ) → Text
 held_text chain balances = balance_lines chain (map holding_of balances)
 
+-- the lines of the notes that came over a chain's channels
 abbrev pub note_text : Text → List (Text × Vec Text) → Text
 note_text chain channels = note_lines chain (map notes_of channels)
 

@@ -74,10 +74,11 @@ plans_of (Some first) (Some second) =
     (plan (view_of_ledger first) (view_of_ledger second), plan (view_of_ledger second) (view_of_ledger first))
 plans_of _ _ = ([], [])
 
--- the same of ledgers behind references
+-- the ledger behind a reference, where there is one
 abbrev pub ledger_behind : Option (Bor LedgerModel) → Option Ledger
 ledger_behind held = option_map (λ ledger. ledger.now.ledger) held
 
+-- the messages that are owed two ledgers behind references
 abbrev pub ArePlansOf : Option (Bor LedgerModel) → Option (Bor LedgerModel) → Vec Message × Vec Message → Type 0
 ArePlansOf first second = λ plans. (plans.0.items, plans.1.items) ≡ plans_of (ledger_behind first) (ledger_behind second)
 
