@@ -3,9 +3,9 @@
 ghost use Rattle.std.specs.Prelude.{◌≡◌, ◌⊎◌, ◌<◌, ◌^◌, IfOk, IfErr, IsErrOf, Some};
 ghost use Rattle.ibc_ids.specs.declared.refusal.Refusal.TheVariants.{BadMessage, NoMemory};
 ghost use Rattle.ibc_machine.specs.declared.entry.Entry.{Entry as AnEntry};
-ghost use Rattle.ibc_entry_codec.specs.Stored.{StoresEntry};
+ghost use Rattle.ibc_entry_codec.specs.Stored.{HasForm, StoresEntry};
 ghost use Rattle.ibc_calls.specs.declared.answer.Refused.TheVariants.{Core};
-ghost use Rattle.ibc_calls.specs.StoredEntries.{AddsEntry, AreWritten, EntriesGoOn, EntryAdded, FindsEntry, IsRestored, IsStored, MakesEntries, TellsStored, WritesStoredEntry, both_answers};
+ghost use Rattle.ibc_calls.specs.StoredEntries.{AddsEntry, AreWritten, EntriesGoOn, EntryAdded, FindsEntry, IsRestored, IsStored, MakesEntries, TellsStored, WritesStoredBytes, WritesStoredEntry, both_answers};
 
 use crate::Refused;
 use crate::handles::{put_new, write_out};
@@ -102,22 +102,50 @@ fn tell_stored(
 ) -> Result<(), Refused>
     ensures { WritesStoredEntry entry.now (record { numbers = numbers.old; event = event.old; event_size = event_size.old; answer = answer.old; answer_size = answer_size.old }) (record { numbers = numbers.new; event = event.new; event_size = event_size.new; answer = answer.new; answer_size = answer_size.new }) result }
 {
-    match stored_of(alloc, entry) {
+    let found = stored_of(alloc, entry);
+    write_found(found, numbers, event, event_size, answer, answer_size)
+}
+
+fn stored_of(alloc: Global, entry: &Entry) -> Result<EntryBytes, Refused>
+    ensures { IsStored entry.now result }
+{
+    match kept_bytes(alloc, entry) {
+        Ok(stored) => Ok(stored),
+        Err(refused) => Err(refused),
+    }
+}
+
+// What a journal keeps of the entry.
+fn kept_bytes(alloc: Global, entry: &Entry) -> Result<EntryBytes, Refused>
+    ensures ok { IfOk result (StoresEntry entry.now) }
+    ensures none { IsErrOf result (Core BadMessage) → ¬ HasForm entry.now }
+    ensures err { IfErr result (λ why. (why ≡ Core BadMessage) ⊎ (why ≡ Core NoMemory)) }
+{
+    match store(alloc, entry) {
+        Ok(stored) => Ok(stored),
+        Err(Refusal::BadMessage) => Err(Refused::Core(Refusal::BadMessage)),
+        Err(_) => Err(Refused::Core(Refusal::NoMemory)),
+    }
+}
+
+// Writes what is kept, where that was found.
+fn write_found(
+    found: Result<EntryBytes, Refused>,
+    numbers: &mut EntryNumbers,
+    event: &mut [u8],
+    event_size: &mut usize,
+    answer: &mut [u8],
+    answer_size: &mut usize,
+) -> Result<(), Refused>
+    ensures { WritesStoredBytes found (record { numbers = numbers.old; event = event.old; event_size = event_size.old; answer = answer.old; answer_size = answer_size.old }) (record { numbers = numbers.new; event = event.new; event_size = event_size.new; answer = answer.new; answer_size = answer_size.new }) result }
+{
+    match found {
         Ok(stored) => {
             let told = write_stored(&stored, numbers, event, event_size, answer, answer_size);
             drop(stored);
             told
         }
         Err(refused) => Err(refused),
-    }
-}
-
-fn stored_of(alloc: Global, entry: &Entry) -> Result<EntryBytes, Refused>
-    ensures { IsStored entry.now result }
-{
-    match store(alloc, entry) {
-        Ok(stored) => Ok(stored),
-        Err(refusal) => Err(Refused::Core(refusal)),
     }
 }
 
