@@ -167,6 +167,8 @@ EDITS = [
     ("adds_two", "src/lib.rt", "    n + 1", "    n + 2", "refused"),
     ("adds_one_more_in_another_way", "src/lib.rt", "next(next(n))", "next(n) + 1", "NOT REFUSED"),
     ("begins_one_later", "src/lib.rt", "    next(before)", "    next(next(before))", "refused"),
+    # (no line may rest on a cycle of calls, since other bodies decide whether it ends)
+    ("calls_itself_through_another", "src/lib.rt", "    n + 1", "    second(n) - 1", "NOT TRIED"),
     ("names_what_is_gone", "src/lib.rt", "let before = second(n);", "let before = n + 2;", "BAD"),
     ("doubles_in_two_ways", "src/lib.rt", "    n + n", "    if n > 7 { n + n } else { n + n }", "BAD"),
     ("doubles_the_small_ones_alone", "src/lib.rt", "    n + n", "    if n > 7 { return n; } n + n", "refused"),
