@@ -1,7 +1,8 @@
 //! Messages for channels.
 
 ghost use Rattle.std.specs.Prelude.{◌≡◌, IfOk, IsOkUnless};
-ghost use Rattle.ibc_script_cli.specs.Completing.{channel_message, peer_key, answer_key, IsAnswerProof, IsChannelOf, IsPeerProof, IsChannelProof, MakesChannelMessage};
+ghost use Rattle.ibc_script_cli.specs.Completing.{channel_message, peer_key, answer_key, IsChannelOf, IsPeerProof, IsChannelProof, MakesChannelMessage};
+ghost use Rattle.ibc_script_cli.specs.Completers.{FindsEnd, findings};
 ghost use Rattle.ibc_ids.specs.declared.key.Key.TheVariants as key;
 
 use super::Completer;
@@ -128,7 +129,7 @@ impl<C: Chains + Drop> Completer<'_, C> {
         port: &PortId,
         channel: &ChannelId,
     ) -> Result<Option<ChannelEnd>, Fault>
-        ensures found { IfOk result (IsChannelOf (C.known.answers self.now.chains.now) on port.now channel.now) }
+        ensures found { IfOk result (IsChannelOf (findings C.known self.now) on port.now channel.now) }
         ensures err { IsOkUnless result Fault.NoMemory }
     {
         self.standing(on, end_key(port, channel)?)
@@ -143,7 +144,7 @@ impl<C: Chains + Drop> Completer<'_, C> {
         peer_channel: &ChannelId,
         from: ProofSource,
     ) -> Result<Option<Bytes>, Fault>
-        ensures is { IfOk result (IsAnswerProof (C.known.answers self.now.chains.now) on port.now channel.now peer_channel.now from) }
+        ensures is { IfOk result (FindsEnd C.known self.now on port.now channel.now peer_channel.now from) }
         ensures err { IsOkUnless result Fault.NoMemory }
     {
         match self.own_end(on, port, channel)? {
@@ -160,7 +161,7 @@ impl<C: Chains + Drop> Completer<'_, C> {
         channel: &ChannelId,
         from: ProofSource,
     ) -> Result<Option<Bytes>, Fault>
-        ensures is { IfOk result (IsPeerProof (C.known.answers self.now.chains.now) on port.now channel.now from) }
+        ensures is { IfOk result (IsPeerProof (findings C.known self.now) on port.now channel.now from) }
         ensures err { IsOkUnless result Fault.NoMemory }
     {
         match self.own_end(on, port, channel)?.and_then(peer_key) {
@@ -171,7 +172,7 @@ impl<C: Chains + Drop> Completer<'_, C> {
 
     // The proof that a step needs.
     fn channel_proof(&self, on: u8, draft: &ChannelDraft) -> Result<Option<Bytes>, Fault>
-        ensures is { IfOk result (IsChannelProof (C.known.answers self.now.chains.now) on draft.now) }
+        ensures is { IfOk result (IsChannelProof (findings C.known self.now) on draft.now) }
         ensures err { IsOkUnless result Fault.NoMemory }
     {
         match draft {
@@ -201,7 +202,7 @@ impl<C: Chains + Drop> Completer<'_, C> {
     /// The message for channels that a step of a chain sends, `None` where something that it needs isn't there.
     /// Fault: `NoMemory`.
     pub fn channel_message(&self, on: u8, draft: ChannelDraft) -> Result<Option<Message>, Fault>
-        ensures made { IfOk result (MakesChannelMessage (C.known.answers self.now.chains.now) on draft) }
+        ensures made { IfOk result (MakesChannelMessage (findings C.known self.now) on draft) }
         ensures err { IsOkUnless result Fault.NoMemory }
     {
         match self.channel_proof(on, &draft) {

@@ -1,8 +1,8 @@
 //! Messages for connections.
 
 ghost use Rattle.std.specs.Prelude.{◌≡◌, Some, IfOk, IsOkUnless};
-ghost use Rattle.ibc_script_cli.specs.Completing.{connection_message, peer_connection_key, AreBothProofs, AreConnectionProofs, IsConnectionOf, MakesConnectionMessage};
-ghost use Rattle.ibc_script.specs.declared.draft.ConnectionDraft.TheVariants as connection_draft;
+ghost use Rattle.ibc_script_cli.specs.Completing.{connection_message, peer_connection_key, IsConnectionOf, MakesConnectionMessage};
+ghost use Rattle.ibc_script_cli.specs.Completers.{ShowsAck, ShowsBoth, ShowsConfirm, ShowsConnection, findings};
 
 use super::{ClientClaim, Completer};
 use crate::Chains;
@@ -118,7 +118,7 @@ impl<C: Chains + Drop> Completer<'_, C> {
         on: u8,
         connection: &ConnectionId,
     ) -> Result<Option<ConnectionEnd>, Fault>
-        ensures found { IfOk result (IsConnectionOf (C.known.answers self.now.chains.now) on connection.now) }
+        ensures found { IfOk result (IsConnectionOf (findings C.known self.now) on connection.now) }
         ensures err { IsOkUnless result Fault.NoMemory }
     {
         self.standing(on, Key::Connection(connection.clone()?))
@@ -131,7 +131,7 @@ impl<C: Chains + Drop> Completer<'_, C> {
         peer_connection: &ConnectionId,
         peer_client: &ClientId,
     ) -> Result<Shown, Fault>
-        ensures shown { IfOk result (λ shown. AreBothProofs (C.known.answers self.now.chains.now) from peer_connection.now peer_client.now shown.end shown.claim) }
+        ensures shown { IfOk result (ShowsBoth C.known self.now from peer_connection.now peer_client.now) }
         ensures err { IsOkUnless result Fault.NoMemory }
     {
         let end = self.proof(from, Key::Connection(peer_connection.clone()?))?;
@@ -152,7 +152,7 @@ impl<C: Chains + Drop> Completer<'_, C> {
         peer_connection: &ConnectionId,
         from: ProofSource,
     ) -> Result<Shown, Fault>
-        ensures shown { IfOk result (λ shown. AreConnectionProofs (C.known.answers self.now.chains.now) on (connection_draft.OpenAck connection.now peer_connection.now from) shown.end shown.claim) }
+        ensures shown { IfOk result (ShowsAck C.known self.now on connection.now peer_connection.now from) }
         ensures err { IsOkUnless result Fault.NoMemory }
     {
         match self.own_connection(on, connection)? {
@@ -172,7 +172,7 @@ impl<C: Chains + Drop> Completer<'_, C> {
         connection: &ConnectionId,
         from: ProofSource,
     ) -> Result<Shown, Fault>
-        ensures shown { IfOk result (λ shown. AreConnectionProofs (C.known.answers self.now.chains.now) on (connection_draft.OpenConfirm connection.now from) shown.end shown.claim) }
+        ensures shown { IfOk result (ShowsConfirm C.known self.now on connection.now from) }
         ensures err { IsOkUnless result Fault.NoMemory }
     {
         match self
@@ -189,7 +189,7 @@ impl<C: Chains + Drop> Completer<'_, C> {
 
     // What a step needs.
     fn connection_shown(&self, on: u8, draft: &ConnectionDraft) -> Result<Shown, Fault>
-        ensures shown { IfOk result (λ shown. AreConnectionProofs (C.known.answers self.now.chains.now) on draft.now shown.end shown.claim) }
+        ensures shown { IfOk result (ShowsConnection C.known self.now on draft.now) }
         ensures err { IsOkUnless result Fault.NoMemory }
     {
         match draft {
@@ -218,7 +218,7 @@ impl<C: Chains + Drop> Completer<'_, C> {
         on: u8,
         draft: ConnectionDraft,
     ) -> Result<Option<Message>, Fault>
-        ensures made { IfOk result (MakesConnectionMessage (C.known.answers self.now.chains.now) on draft) }
+        ensures made { IfOk result (MakesConnectionMessage (findings C.known self.now) on draft) }
         ensures err { IsOkUnless result Fault.NoMemory }
     {
         match self.connection_shown(on, &draft) {
