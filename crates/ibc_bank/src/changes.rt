@@ -4,6 +4,7 @@ ghost use Rattle.std.specs.Prelude.{◌≡◌, ◌++◌, ◌∷◌, [], OnOk, If
 ghost use Rattle.ibc_bank.specs.Moves.{after_move, after_moves};
 ghost use Rattle.ibc_bank.specs.BankModel.{AreBalanced, IsBalanced, no_amount, state_of, state_after_changes};
 ghost use Rattle.ibc_ids.specs.declared.refusal.Refusal.TheVariants.{NoMemory};
+ghost use Rattle.ibc_bank.specs.declared.moves.Move.TheVariants as moving;
 ghost use Rattle.ibc_bank.specs.Outcomes.{IsPoorIfNone, FailsPoor, FailsAs, FailsIf};
 ghost use Rattle.ibc_bank.specs.BookChanges.{AreChangesOf, MakesMove, refund_in, MakesRefund, MakesSettlement, carry_in, MakesCarrying, take_in, MakesTaking, MakesPutting, AreBalancedWith, balance_after, AddsHeld, AddsTotal};
 
@@ -11,7 +12,7 @@ use crate::books::BankMaps;
 use crate::holder::{AccountKey, AccountRef};
 use crate::moves::{Move, Source};
 use crate::place::Place;
-use ibc_ids::{Denom, Refusal, UserName};
+use ibc_ids::{ChannelId, Denom, Refusal, UserName};
 use std::alloc::{AllocError, Global};
 
 /// What moves change in a bank, in their order: the new amounts. The bank itself is as before.
@@ -67,25 +68,13 @@ impl Changes {
                 channel,
                 denom,
                 amount,
-            } => self.carry(
-                books,
-                Place::user(user),
-                Place::escrow(channel),
-                denom,
-                *amount,
-            ),
+            } => self.into_escrow(books, user, channel, denom, *amount),
             Move::Release {
                 channel,
                 user,
                 denom,
                 amount,
-            } => self.carry(
-                books,
-                Place::escrow(channel),
-                Place::user(user),
-                denom,
-                *amount,
-            ),
+            } => self.out_of_escrow(books, channel, user, denom, *amount),
             Move::Burn {
                 user,
                 denom,
@@ -104,6 +93,52 @@ impl Changes {
             } => self.refund(books, user, source, denom, *amount),
             Move::Settle { denom, amount } => self.settle(books, denom, *amount),
         }
+    }
+
+    // From a user to the escrow account of a channel.
+    fn into_escrow(
+        &mut self,
+        books: &BankMaps,
+        user: &UserName,
+        channel: &ChannelId,
+        denom: &Denom,
+        amount: u128,
+    ) -> Result<(), Refusal>
+        requires { AreBalanced no_amount self.old books.now }
+        ensures ok { OnOk result (MakesMove (moving.Escrow user.now channel.now denom.now amount) self.old self.new books.now) }
+        ensures balanced { OnOk result (AreBalanced no_amount self.new books.now) }
+        ensures err { FailsAs result (after_move (moving.Escrow user.now channel.now denom.now amount) (state_after_changes self.old books.now)) }
+    {
+        self.carry(
+            books,
+            Place::user(user),
+            Place::escrow(channel),
+            denom,
+            amount,
+        )
+    }
+
+    // From the escrow account of a channel to a user.
+    fn out_of_escrow(
+        &mut self,
+        books: &BankMaps,
+        channel: &ChannelId,
+        user: &UserName,
+        denom: &Denom,
+        amount: u128,
+    ) -> Result<(), Refusal>
+        requires { AreBalanced no_amount self.old books.now }
+        ensures ok { OnOk result (MakesMove (moving.Release channel.now user.now denom.now amount) self.old self.new books.now) }
+        ensures balanced { OnOk result (AreBalanced no_amount self.new books.now) }
+        ensures err { FailsAs result (after_move (moving.Release channel.now user.now denom.now amount) (state_after_changes self.old books.now)) }
+    {
+        self.carry(
+            books,
+            Place::escrow(channel),
+            Place::user(user),
+            denom,
+            amount,
+        )
     }
 
     // Back to a user.

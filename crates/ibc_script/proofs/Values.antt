@@ -1,5 +1,5 @@
 -- Values of JSON, as they are read one after another.
-use Rattle.std.proofs.Common.{◌≡◌, ◌∙◌, ◌⊎◌, ◌+◌, ◌<◌, ◌≤◌, ◌^◌, ◌&&◌, ◌||◌, ℕ, zero, suc, Bool, Bor, Global, String, true, false, List, [], ◌∷◌, ◌++◌, Option, None, Some, ap, codes, decimal, arith, get_or, inl, inr, length, map, option_map, refl, slice_get, string_bytes, bytes_eq, subst, sym, take, zip}
+use Rattle.std.proofs.Common.{◌≡◌, ◌∙◌, ◌⊎◌, ◌+◌, ◌<◌, ◌^◌, ◌&&◌, ◌||◌, ℕ, zero, suc, Bool, Bor, Global, String, true, false, List, [], ◌∷◌, ◌++◌, Option, None, Some, ap, codes, decimal, arith, get_or, inl, inr, length, map, option_map, refl, slice_get, string_bytes, bytes_eq, subst, sym, take, zip}
 use Rattle.std.specs.List.{list_all, list_any}
 use Rattle.std.specs.Str.Parse.{digits_value}
 use Rattle.std.proofs.lemmas.Fmt.{decimal_is_IsNumeral_wide}

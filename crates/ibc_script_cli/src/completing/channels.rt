@@ -4,11 +4,12 @@ ghost use Rattle.std.specs.Prelude.{◌≡◌, IfOk, IsOkUnless};
 ghost use Rattle.ibc_script_cli.specs.Completing.{channel_message, peer_key, answer_key, IsChannelOf, IsPeerProof, IsChannelProof, MakesChannelMessage};
 ghost use Rattle.ibc_script_cli.specs.Completers.{FindsEnd, findings};
 ghost use Rattle.ibc_ids.specs.declared.key.Key.TheVariants as key;
+ghost use Rattle.ibc_script.specs.declared.draft.ChannelDraft.TheVariants as step;
 
 use super::Completer;
 use crate::Chains;
 use ibc_ids::{Bytes, ChannelId, Key, PortId};
-use ibc_script::{ChannelDraft, Fault, ProofSource};
+use ibc_script::{ChannelDraft, ChannelTry, Fault, ProofSource};
 use ibc_wire::{ChanCloseConfirm, ChanOpenAck, ChanOpenConfirm, ChanOpenTry, ChannelEnd, Message};
 use std::alloc::AllocError;
 
@@ -50,74 +51,103 @@ fn answer_key(own: ChannelEnd, peer_channel: &ChannelId) -> Result<Key, AllocErr
     Ok(Key::ChannelEnd(peer_port, peer_channel.clone()?))
 }
 
+// The message of a step ChanOpenTry with the proof of the peer's end.
+fn open_try_message(draft: ChannelTry, proof: Option<Bytes>) -> Option<Message>
+    ensures { result ≡ channel_message (step.OpenTry draft) proof }
+{
+    let proof = proof?;
+    Some(Message::ChanOpenTry(ChanOpenTry {
+        port: draft.port,
+        order: draft.order,
+        connection: draft.connection,
+        peer_port: draft.peer_port,
+        peer_channel: draft.peer_channel,
+        version: draft.version,
+        height: draft.from.height,
+        proof,
+    }))
+}
+
+// The message of a step ChanOpenAck with the proof of the peer's end.
+fn open_ack_message(
+    port: PortId,
+    channel: ChannelId,
+    peer_channel: ChannelId,
+    from: ProofSource,
+    proof: Option<Bytes>,
+) -> Option<Message>
+    ensures { result ≡ channel_message (step.OpenAck port channel peer_channel from) proof }
+{
+    let proof = proof?;
+    Some(Message::ChanOpenAck(ChanOpenAck {
+        port,
+        channel,
+        peer_channel,
+        height: from.height,
+        proof,
+    }))
+}
+
+// The message of a step ChanOpenConfirm with the proof of the peer's end.
+fn open_confirm_message(
+    port: PortId,
+    channel: ChannelId,
+    from: ProofSource,
+    proof: Option<Bytes>,
+) -> Option<Message>
+    ensures { result ≡ channel_message (step.OpenConfirm port channel from) proof }
+{
+    let proof = proof?;
+    Some(Message::ChanOpenConfirm(ChanOpenConfirm {
+        port,
+        channel,
+        height: from.height,
+        proof,
+    }))
+}
+
+// The message of a step ChanCloseConfirm with the proof of the peer's end.
+fn close_confirm_message(
+    port: PortId,
+    channel: ChannelId,
+    from: ProofSource,
+    proof: Option<Bytes>,
+) -> Option<Message>
+    ensures { result ≡ channel_message (step.CloseConfirm port channel from) proof }
+{
+    let proof = proof?;
+    Some(Message::ChanCloseConfirm(ChanCloseConfirm {
+        port,
+        channel,
+        height: from.height,
+        proof,
+    }))
+}
+
 /// The message that a step becomes with the proof of the peer's end, `None` where one that it needs isn't there.
 fn channel_message(draft: ChannelDraft, proof: Option<Bytes>) -> Option<Message>
     ensures { result ≡ channel_message draft proof }
 {
-    match (draft, proof) {
-        (ChannelDraft::OpenInit(message), _) => Some(Message::ChanOpenInit(message)),
-        (ChannelDraft::CloseInit(message), _) => Some(Message::ChanCloseInit(message)),
-        (ChannelDraft::OpenTry(draft), Some(proof)) => Some(Message::ChanOpenTry(ChanOpenTry {
-            port: draft.port,
-            order: draft.order,
-            connection: draft.connection,
-            peer_port: draft.peer_port,
-            peer_channel: draft.peer_channel,
-            version: draft.version,
-            height: draft.from.height,
-            proof,
-        })),
-        (
-            ChannelDraft::OpenAck {
-                port,
-                channel,
-                peer_channel,
-                from,
-            },
-            Some(proof),
-        ) => {
-            Some(Message::ChanOpenAck(ChanOpenAck {
-                port,
-                channel,
-                peer_channel,
-                height: from.height,
-                proof,
-            }))
-        }
-        (
-            ChannelDraft::OpenConfirm {
-                port,
-                channel,
-                from,
-            },
-            Some(proof),
-        ) => {
-            Some(Message::ChanOpenConfirm(ChanOpenConfirm {
-                port,
-                channel,
-                height: from.height,
-                proof,
-            }))
-        }
-        (
-            ChannelDraft::CloseConfirm {
-                port,
-                channel,
-                from,
-            },
-            Some(proof),
-        ) => {
-            Some(Message::ChanCloseConfirm(ChanCloseConfirm {
-                port,
-                channel,
-                height: from.height,
-                proof,
-            }))
-        }
-        (draft, None) => {
-            drop(draft);
-            None
-        }
+    match draft {
+        ChannelDraft::OpenInit(message) => Some(Message::ChanOpenInit(message)),
+        ChannelDraft::CloseInit(message) => Some(Message::ChanCloseInit(message)),
+        ChannelDraft::OpenTry(draft) => open_try_message(draft, proof),
+        ChannelDraft::OpenAck {
+            port,
+            channel,
+            peer_channel,
+            from,
+        } => open_ack_message(port, channel, peer_channel, from, proof),
+        ChannelDraft::OpenConfirm {
+            port,
+            channel,
+            from,
+        } => open_confirm_message(port, channel, from, proof),
+        ChannelDraft::CloseConfirm {
+            port,
+            channel,
+            from,
+        } => close_confirm_message(port, channel, from, proof),
     }
 }
 

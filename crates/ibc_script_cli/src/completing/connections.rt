@@ -3,6 +3,7 @@
 ghost use Rattle.std.specs.Prelude.{◌≡◌, Some, IfOk, IsOkUnless};
 ghost use Rattle.ibc_script_cli.specs.Completing.{connection_message, peer_connection_key, IsConnectionOf, MakesConnectionMessage};
 ghost use Rattle.ibc_script_cli.specs.Completers.{ShowsAck, ShowsBoth, ShowsConfirm, ShowsConnection, findings};
+ghost use Rattle.ibc_script.specs.declared.draft.ConnectionDraft.TheVariants as step;
 
 use super::{ClientClaim, Completer};
 use crate::Chains;
@@ -42,71 +43,93 @@ fn peer_connection_key(own: ConnectionEnd) -> Option<Key>
     }
 }
 
+// The message of a step ConnOpenTry with what is shown of the peer.
+fn open_try_message(
+    client: ClientId,
+    peer_client: ClientId,
+    peer_connection: ConnectionId,
+    from: ProofSource,
+    shown: Shown,
+) -> Option<Message>
+    ensures { result ≡ connection_message (step.OpenTry client peer_client peer_connection from) shown.end shown.claim }
+{
+    let Shown { end, claim } = shown;
+    let (proof_end, claim) = (end?, claim?);
+    Some(Message::ConnOpenTry(ConnOpenTry {
+        client,
+        peer_client,
+        peer_connection,
+        claim: claim.state,
+        height: from.height,
+        proof_end,
+        proof_client: claim.proof,
+    }))
+}
+
+// The message of a step ConnOpenAck with what is shown of the peer.
+fn open_ack_message(
+    connection: ConnectionId,
+    peer_connection: ConnectionId,
+    from: ProofSource,
+    shown: Shown,
+) -> Option<Message>
+    ensures { result ≡ connection_message (step.OpenAck connection peer_connection from) shown.end shown.claim }
+{
+    let Shown { end, claim } = shown;
+    let (proof_end, claim) = (end?, claim?);
+    Some(Message::ConnOpenAck(ConnOpenAck {
+        connection,
+        peer_connection,
+        claim: claim.state,
+        height: from.height,
+        proof_end,
+        proof_client: claim.proof,
+    }))
+}
+
+// The message of a step ConnOpenConfirm with what is shown of the peer.
+fn open_confirm_message(
+    connection: ConnectionId,
+    from: ProofSource,
+    shown: Shown,
+) -> Option<Message>
+    ensures { result ≡ connection_message (step.OpenConfirm connection from) shown.end shown.claim }
+{
+    let proof = shown.end?;
+    Some(Message::ConnOpenConfirm(ConnOpenConfirm {
+        connection,
+        height: from.height,
+        proof,
+    }))
+}
+
 /// The message that a step becomes with what is shown of the peer, `None` where something that it needs isn't there.
 fn connection_message(draft: ConnectionDraft, shown: Shown) -> Option<Message>
     ensures { result ≡ connection_message draft shown.end shown.claim }
 {
-    let Shown { end, claim } = shown;
-    match (draft, end, claim) {
-        (
-            ConnectionDraft::OpenInit {
-                client,
-                peer_client,
-            },
-            _,
-            _,
-        ) => {
+    match draft {
+        ConnectionDraft::OpenInit {
+            client,
+            peer_client,
+        } => {
             Some(Message::ConnOpenInit(ConnOpenInit {
                 client,
                 peer_client,
             }))
         }
-        (
-            ConnectionDraft::OpenTry {
-                client,
-                peer_client,
-                peer_connection,
-                from,
-            },
-            Some(proof_end),
-            Some(claim),
-        ) => Some(Message::ConnOpenTry(ConnOpenTry {
+        ConnectionDraft::OpenTry {
             client,
             peer_client,
             peer_connection,
-            claim: claim.state,
-            height: from.height,
-            proof_end,
-            proof_client: claim.proof,
-        })),
-        (
-            ConnectionDraft::OpenAck {
-                connection,
-                peer_connection,
-                from,
-            },
-            Some(proof_end),
-            Some(claim),
-        ) => Some(Message::ConnOpenAck(ConnOpenAck {
+            from,
+        } => open_try_message(client, peer_client, peer_connection, from, shown),
+        ConnectionDraft::OpenAck {
             connection,
             peer_connection,
-            claim: claim.state,
-            height: from.height,
-            proof_end,
-            proof_client: claim.proof,
-        })),
-        (ConnectionDraft::OpenConfirm { connection, from }, Some(proof), _) => {
-            Some(Message::ConnOpenConfirm(ConnOpenConfirm {
-                connection,
-                height: from.height,
-                proof,
-            }))
-        }
-        (draft, end, claim) => {
-            drop(draft);
-            drop(end);
-            drop(claim);
-            None
+            from,
+        } => open_ack_message(connection, peer_connection, from, shown),
+        ConnectionDraft::OpenConfirm { connection, from } => {
+            open_confirm_message(connection, from, shown)
         }
     }
 }
