@@ -9,4 +9,4 @@ use Rattle.ibc_bank.proofs.changes.Changes.apply.Goals as goal
 pub returns-in-Release-clause-err : goal.returns-in-Release-clause-err
 returns-in-Release-clause-err c =
     subst (λ m. IfErr c.out_of_escrow.result (λ e. (e ≡ NoMemory) ⊎ (after_move m (state_after_changes c.args.self.now c.args.books.now) ≡ Err e)))
-      (sym c.in-Release.is) c.out_of_escrow.ensures.err
+    (sym c.in-Release.is) c.out_of_escrow.ensures.err
