@@ -1,7 +1,7 @@
 """Tries of single wrong bodies by `rt ci`: those that are drawn beside a checkout's own must-fail edits, or in a copy in which they are the only ones.
 
 So nothing below a crate is proved again for them, nor in the copy where the kit keeps it; and the verdict is the kit's. It gives one reason for each,
-and cuts it: an open goal or an error in a proof where it found any, and else a name that is gone.
+and cuts it. Where that is a name that is gone, goals may be open that it doesn't tell: then it shows nothing, and all reasons are read (tools/verdicts.py).
 """
 import contextlib
 import glob
@@ -12,9 +12,9 @@ import functions
 from tries import CloneForCi, write
 from verdicts import BAD, ERROR, GOAL, MISSED, NAMES, REFUSED, UNSURE, is_own
 
-# How the kit's verdict on a must-fail edit begins, and what that means here where it gives no reason to be read.
+# How the kit's verdict on a must-fail edit begins, and what that means here where it gives no reason to be read: nothing where a name is gone.
 REASON = "refused, as it must be: "
-WORDS = (("refused, as it must be (only because", BAD), ("NOT REFUSED", MISSED), ("BAD EDIT", BAD))
+WORDS = (("refused, as it must be (only because", None), ("NOT REFUSED", MISSED), ("BAD EDIT", BAD))
 # What the names of edits begin with that are tried beside a checkout's own.
 PLANTED = "drawn_"
 # How many bytes of a reason it prints; what an error says; and how it begins to say which name a goal, a module or a record lacks.
@@ -48,24 +48,26 @@ class Judge:
         said = verdict_of(edit, text)
         if said is None:
             return UNSURE, f"`rt ci` says nothing of it: {why_not(text)[:160]}"
-        if not said.startswith(REASON):
-            return next((kind for words, kind in WORDS if said.startswith(words)), UNSURE), said[:200]
-        goal, error = GOAL.match(said.removeprefix(REASON)), ERROR.match(said.removeprefix(REASON))
+        if said.startswith(REASON):
+            return (REFUSED, said[:200]) if self.is_refusal(edit, said.removeprefix(REASON)) else None
+        kind = next((kind for words, kind in WORDS if said.startswith(words)), UNSURE)
+        return kind and (kind, said[:200])
+
+    def is_refusal(self, edit, reason):
+        """Whether a reason is an open goal of the edited function, or an error in its proof that is no lost name."""
+        goal, error = GOAL.match(reason), ERROR.match(reason)
         if goal and (edit.function is None or edit.holds(goal[1], int(goal[2]))):
-            return REFUSED, said[:200]
-        if error and error[1].startswith("proofs/") and (edit.function is None or error[1].split("/")[1:-1] in self.of_edit(edit)):
-            kind = of_error(said.removeprefix(REASON))
-            return kind and (kind, said[:200])
-        return None
+            return True
+        is_own_proof = error and error[1].startswith("proofs/") and (edit.function is None or error[1].split("/")[1:-1] in self.of_edit(edit))
+        return bool(is_own_proof) and is_no_lost_name(reason)
 
 
-def of_error(reason):
-    """What an error in a proof comes to: nothing where it is cut before it says what is wrong."""
+def is_no_lost_name(reason):
+    """Whether an error in a proof says something else than that a name is gone. Where it is cut before it says what is wrong, it doesn't."""
     says = SAYS.search(reason)
     if re.search(NAMES, reason) or says and LACKS.match(says[1]):
-        return BAD
-    is_cut = len(reason.encode()) >= CUT and not (says and re.match(r"[a-z]+ \S", says[1]))
-    return None if is_cut else REFUSED
+        return False
+    return len(reason.encode()) < CUT or bool(says and re.match(r"[a-z]+ \S", says[1]))
 
 
 def verdict_of(edit, text):

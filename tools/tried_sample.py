@@ -190,7 +190,12 @@ EDITS = [
 ]
 WANTED = {name: wanted for name, *_, wanted in EDITS}
 CODE = [it for it in EDITS if it[0] == "adds_two"]
-FORGED = [it for it in EDITS if it[0] in ("any_other_number", "names_what_is_gone", "no_such_name", "stands_nowhere")]
+FORGED = [it for it in EDITS if it[0] in ("any_other_number", "names_what_is_gone", "adds_where_it_doubled", "no_such_name", "stands_nowhere")]
+# What `rt ci` may say of `adds_where_it_doubled`: a lost name, though a goal is open too.
+LOST_NAME = (
+    "refused, as it must be: ./proofs/behind/Answers.antt:5:39: error: `next-requires`: "
+    "record `Rattle.sample.proofs.behind.Lts.After` has no field `doubled-two`"
+)
 
 
 class Sample:
