@@ -255,14 +255,19 @@ fn prove_and_check(
     drop(key);
 }
 
-fn check_keys(rt: &impl Abort, alloc: Global, records: &Records, clients: [&ClientId; 2]) {
-    let mut memory = NodeMemory::new(alloc);
-    let kept = &mut memory;
+// Asks for two counters, and for the first of them once more.
+fn check_counters(
+    rt: &impl Abort,
+    alloc: Global,
+    records: &Records,
+    memory: &mut NodeMemory,
+    clients: [&ClientId; 2],
+) {
     prove_and_check(
         rt,
         alloc,
         records,
-        kept,
+        memory,
         clients,
         Key::NextClientSequence,
         true,
@@ -271,7 +276,7 @@ fn check_keys(rt: &impl Abort, alloc: Global, records: &Records, clients: [&Clie
         rt,
         alloc,
         records,
-        kept,
+        memory,
         clients,
         Key::NextChannelSequence,
         true,
@@ -280,11 +285,17 @@ fn check_keys(rt: &impl Abort, alloc: Global, records: &Records, clients: [&Clie
         rt,
         alloc,
         records,
-        kept,
+        memory,
         clients,
         Key::NextClientSequence,
         true,
     );
+}
+
+fn check_keys(rt: &impl Abort, alloc: Global, records: &Records, clients: [&ClientId; 2]) {
+    let mut memory = NodeMemory::new(alloc);
+    let kept = &mut memory;
+    check_counters(rt, alloc, records, kept, clients);
     let name = clients[1].clone().expect(rt, "memory");
     prove_and_check(
         rt,

@@ -1,5 +1,5 @@
 -- Maps of amounts: amounts of 0 are left out.
-use Rattle.std.specs.Prelude.{ℕ, ◌<◌, ◌==◌, IsTrue, List, if◌then◌else◌}
+use Rattle.std.specs.Prelude.{ℕ, ◌-◌, ◌<◌, ◌==◌, IsTrue, List, if◌then◌else◌}
 use Rattle.std.specs.FinMap.{is_sorted}
 use Rattle.std.specs.List.{fold, All}
 use Rattle.std.specs.Map.{values_of}
@@ -25,3 +25,7 @@ with_amounts {K} order changes amounts =
 pub record AreKept {K : Type 0} (order : K → K → Ordering) (amounts : Map K ℕ) : Type 0 where
   pub sorted : IsTrue (is_sorted order amounts)
   pub above_0 : All (λ amount. 0 < amount) (values_of amounts)
+
+-- with so much less at the key
+abbrev pub with_less : {K : Type 0} → (K → K → Ordering) → K → ℕ → Map K ℕ → Map K ℕ
+with_less order key less amounts = with_amount order key (amount_at order key amounts - less) amounts

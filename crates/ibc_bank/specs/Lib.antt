@@ -3,5 +3,7 @@ pub mod Parties
 pub mod Moves
 pub mod TokenPlaces
 pub mod BankModel
+pub mod BookChanges
+pub mod Outcomes
 pub mod ListedHoldings
 pub mod SortedStarts

@@ -1,11 +1,11 @@
 -- What a bank holds, and how tokens move in it (ICS 20, "sendFungibleTokens", "onRecvPacket" and "refundTokens").
-use Rattle.std.specs.Prelude.{ℕ, ◌+◌, ◌-◌, nat_lt, List, [], ◌∷◌, Option, Some, None, Ok, if◌then◌else◌}
+use Rattle.std.specs.Prelude.{ℕ, ◌+◌, ◌-◌, nat_lt, IsTrue, List, [], ◌∷◌, Option, Some, None, Ok, if◌then◌else◌}
 use Rattle.std.specs.Option.{option_map}
 use Rattle.ibc_ids.specs.Texts.{Text, text_cmp}
 use Rattle.ibc_ids.specs.Maps.{Map}
 use Rattle.ibc_ids.specs.declared.refusal.Refusal.TheVariants.{Poor, TooLarge}
 use Rattle.ibc_wire.specs.declared.token.Token.{Token}
-use Rattle.ibc_machine.specs.ics20.Bank.{Balances, give, pay, into_escrow, out_of_escrow, mint}
+use Rattle.ibc_machine.specs.ics20.Bank.{Balances, give, pay, into_escrow, out_of_escrow, mint, supply, is_bounded}
 use Rattle.ibc_machine.specs.chain.Checks.{Checked, expect, ◌>>=◌}
 use Rattle.ibc_bank.specs.Amounts.{amount_at, with_amount}
 use Rattle.ibc_bank.specs.declared.moves.Move.{Move}
@@ -77,3 +77,29 @@ after_move (move.Settle denom amount) bank = Ok (after_settlement (token_of deno
 abbrev pub after_moves : List Move → BankState → Checked BankState
 after_moves [] bank = Ok bank
 after_moves (m ∷ moves) bank = after_move m bank >>= after_moves moves
+
+-- ---- the same moves, of so much of a denomination
+
+-- a user's tokens into the escrow of a channel
+abbrev pub escrowing : Text → Text → Text → ℕ → BankState → Option BankState
+escrowing user channel denom amount bank = after_escrow user channel (token_of denom amount) bank
+
+-- tokens out of the escrow of a channel to a user
+abbrev pub releasing : Text → Text → Text → ℕ → BankState → Option BankState
+releasing channel user denom amount bank = after_release channel user (token_of denom amount) bank
+
+-- a user's tokens are burnt
+abbrev pub burning : Text → Text → ℕ → BankState → Option BankState
+burning user denom amount bank = after_burn user (token_of denom amount) bank
+
+-- new tokens for a user
+abbrev pub minting : Text → Text → ℕ → BankState → Option BankState
+minting user denom amount bank = after_mint user (token_of denom amount) bank
+
+-- back to a user
+abbrev pub refunding : Text → Source → Text → ℕ → BankState → Option BankState
+refunding user source denom amount bank = after_refund user source (token_of denom amount) bank
+
+-- what is held of a denomination and what is burnt of it fit 128 bits together
+abbrev pub IsBoundedAt : BankState → Text → Type 0
+IsBoundedAt bank denom = IsTrue (is_bounded (supply bank.balances denom) (burnt_of bank denom))

@@ -1,11 +1,12 @@
 -- Tokens on their way from one place to another.
-use Rattle.std.specs.Prelude.{◌+◌, ◌-◌, nat_lt, Ok, Err, if◌then◌else◌}
+use Rattle.std.specs.Prelude.{ℕ, ◌+◌, ◌-◌, nat_lt, Ok, Err, if◌then◌else◌}
 use Rattle.std.specs.Option.{option_map}
+use Rattle.ibc_ids.specs.Texts.{Text}
 use Rattle.ibc_ids.specs.declared.refusal.Refusal.TheVariants.{Poor, TooLarge}
 use Rattle.ibc_wire.specs.declared.token.Token.{Token}
 use Rattle.ibc_machine.specs.ics20.Bank.{give, pay, supply, is_bounded}
 use Rattle.ibc_machine.specs.chain.Checks.{Checked, expect}
-use Rattle.ibc_bank.specs.Moves.{BankState, burnt_of, with_burnt, with_balances}
+use Rattle.ibc_bank.specs.Moves.{BankState, burnt_of, token_of, with_burnt, with_balances}
 use Rattle.ibc_bank.specs.Parties.{party_text}
 use Rattle.ibc_bank.specs.declared.place.Place.{Place}
 use Rattle.ibc_bank.specs.declared.place.Place.TheVariants as place
@@ -34,3 +35,7 @@ taken_then_put to token (Err refusal) = Err refusal
 -- from one place to another
 abbrev pub after_carrying : Place → Place → Token → BankState → Checked BankState
 after_carrying from to token bank = taken_then_put to token (after_taking from token bank)
+
+-- so much of a denomination from one place to another
+abbrev pub carrying : Place → Place → Text → ℕ → BankState → Checked BankState
+carrying from to denom amount bank = after_carrying from to (token_of denom amount) bank

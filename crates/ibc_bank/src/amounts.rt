@@ -1,9 +1,9 @@
 //! Amounts above 0, by key.
 
-ghost use Rattle.std.specs.Prelude.{◌≡◌, ◌-◌, ◌≤◌, ◌<◌, ◌+◌, [], length, IsOk, IsTrue, OnOk};
+ghost use Rattle.std.specs.Prelude.{◌≡◌, ◌≤◌, ◌<◌, ◌+◌, [], length, IsOk, IsTrue, OnOk};
 ghost use Rattle.std.specs.FinMap.{is_sorted};
 ghost use Rattle.ibc_ids.specs.Texts.{text_cmp};
-ghost use Rattle.ibc_bank.specs.Amounts.{amount_at, with_amount, with_amounts};
+ghost use Rattle.ibc_bank.specs.Amounts.{amount_at, with_amount, with_amounts, with_less};
 
 use ibc_ids::Denom;
 use ibc_maps::SortedMap;
@@ -90,7 +90,7 @@ impl<K: Ord> Amounts<K> {
     where
         K: Drop,
         requires { by ≤ amount_at K.cmp key.now self.old.pairs }
-        ensures { self.new.pairs ≡ with_amount K.cmp key.now (amount_at K.cmp key.now self.old.pairs - by) self.old.pairs }
+        ensures { self.new.pairs ≡ with_less K.cmp key.now by self.old.pairs }
     {
         let left = self.get(key) - by;
         if left == 0 {

@@ -1,20 +1,20 @@
 //! The bank of a chain.
 
-ghost use Rattle.std.specs.Prelude.{◌≡◌, ◌⊎◌, ◌↔◌, [], true, Some, None, Ok, Err, map, IsTrue, IsOk, IsSome, IfOk, IfErr, OnOk, OnErr, IsErrOf, IsOkUnless};
+ghost use Rattle.std.specs.Prelude.{◌≡◌, [], true, Ok, map, IsTrue, IsOk, IfOk, OnOk, OnErr};
 ghost use Rattle.std.specs.List.{list_all};
 ghost use Rattle.ibc_ids.specs.Texts.{pair_cmp};
 ghost use Rattle.ibc_ids.specs.Names.{is_denom};
 ghost use Rattle.ibc_ids.specs.Paths.{account_text};
-ghost use Rattle.ibc_machine.specs.ics20.Bank.{balance, supply, is_bounded};
+ghost use Rattle.ibc_machine.specs.ics20.Bank.{balance, supply};
 ghost use Rattle.ibc_machine.specs.chain.Genesis.{starting_balances, is_fair};
 ghost use Rattle.ibc_bank.specs.Amounts.{AreKept};
 ghost use Rattle.ibc_bank.specs.BankModel.{IsBalanced, no_amount, state_of};
-ghost use Rattle.ibc_bank.specs.Moves.{BankState, token_of, burnt_of, after_escrow, after_release, after_burn, after_mint, after_refund, after_settlement, after_moves};
-ghost use Rattle.ibc_bank.specs.TokenPlaces.{after_carrying};
+ghost use Rattle.ibc_bank.specs.Moves.{BankState, token_of, burnt_of, after_settlement, after_moves, escrowing, releasing, burning, minting, refunding, IsBoundedAt};
+ghost use Rattle.ibc_bank.specs.TokenPlaces.{carrying};
 ghost use Rattle.ibc_bank.specs.ListedHoldings.{abstract_holding};
 ghost use Rattle.ibc_bank.specs.SortedStarts.{shown};
-ghost use Rattle.ibc_ids.specs.declared.refusal.Refusal.{Refusal};
-ghost use Rattle.ibc_ids.specs.declared.refusal.Refusal.TheVariants.{NoMemory};
+ghost use Rattle.ibc_ids.specs.declared.refusal.Refusal.TheVariants.{Poor, TooLarge};
+ghost use Rattle.ibc_bank.specs.Outcomes.{GivesOnOk, IsErrIfNone, IsOkIfSome, FailsAs, FailsIf};
 
 use crate::amounts::Amounts;
 use crate::books::BankMaps;
@@ -65,7 +65,7 @@ impl Bank {
     /// and all amounts of a denomination fit 128 bits together.
     pub fn from_start(alloc: Global, start: &ChainStart) -> Result<Bank, AllocError>
         requires { IsTrue (list_all (is_fair start.now.balances.items) start.now.balances.items) }
-        ensures balances { IfOk result (λ bank. bank.balances ≡ starting_balances start.now.balances.items) }
+        ensures balances { IfOk result (λ it. it.balances ≡ starting_balances start.now.balances.items) }
         ensures burnt { IfOk result (λ bank. bank.burnt ≡ []) }
     {
         let holdings = start.balances.as_slice();
@@ -122,7 +122,7 @@ impl Bank {
     /// All that accounts hold of a denomination; it fits 128 bits together with what was burnt.
     pub fn supply(&self, denom: &Denom) -> u128
         ensures value { result ≡ supply self.now.balances denom.now }
-        ensures bounded { IsTrue (is_bounded (supply self.now.balances denom.now) (burnt_of self.now denom.now)) }
+        ensures bounded { IsBoundedAt self.now denom.now }
     {
         self.books.totals.get(denom) - self.burnt(denom)
     }
@@ -152,9 +152,9 @@ impl Bank {
         denom: &Denom,
         amount: u128,
     ) -> Result<(), Refusal>
-        ensures ok { OnOk result (after_escrow user.now channel.now (token_of denom.now amount) self.old ≡ Some self.new) }
-        ensures poor { IsErrOf result Refusal.Poor ↔ (after_escrow user.now channel.now (token_of denom.now amount) self.old ≡ None) }
-        ensures memory { IsSome (after_escrow user.now channel.now (token_of denom.now amount) self.old) → IsOkUnless result Refusal.NoMemory }
+        ensures ok { GivesOnOk result (escrowing user.now channel.now denom.now amount self.old) self.new }
+        ensures poor { IsErrIfNone result Poor (escrowing user.now channel.now denom.now amount self.old) }
+        ensures memory { IsOkIfSome result (escrowing user.now channel.now denom.now amount self.old) }
         ensures err { OnErr result (self.new ≡ self.old) }
     {
         self.carry(Place::user(user), Place::escrow(channel), denom, amount)
@@ -169,9 +169,9 @@ impl Bank {
         denom: &Denom,
         amount: u128,
     ) -> Result<(), Refusal>
-        ensures ok { OnOk result (after_release channel.now user.now (token_of denom.now amount) self.old ≡ Some self.new) }
-        ensures poor { IsErrOf result Refusal.Poor ↔ (after_release channel.now user.now (token_of denom.now amount) self.old ≡ None) }
-        ensures memory { IsSome (after_release channel.now user.now (token_of denom.now amount) self.old) → IsOkUnless result Refusal.NoMemory }
+        ensures ok { GivesOnOk result (releasing channel.now user.now denom.now amount self.old) self.new }
+        ensures poor { IsErrIfNone result Poor (releasing channel.now user.now denom.now amount self.old) }
+        ensures memory { IsOkIfSome result (releasing channel.now user.now denom.now amount self.old) }
         ensures err { OnErr result (self.new ≡ self.old) }
     {
         self.carry(Place::escrow(channel), Place::user(user), denom, amount)
@@ -180,9 +180,9 @@ impl Bank {
     /// Burns a user's tokens, which may still be refunded. Refused: `Poor` exactly where the user holds less;
     /// `NoMemory`.
     pub fn burn(&mut self, user: &UserName, denom: &Denom, amount: u128) -> Result<(), Refusal>
-        ensures ok { OnOk result (after_burn user.now (token_of denom.now amount) self.old ≡ Some self.new) }
-        ensures poor { IsErrOf result Refusal.Poor ↔ (after_burn user.now (token_of denom.now amount) self.old ≡ None) }
-        ensures memory { IsSome (after_burn user.now (token_of denom.now amount) self.old) → IsOkUnless result Refusal.NoMemory }
+        ensures ok { GivesOnOk result (burning user.now denom.now amount self.old) self.new }
+        ensures poor { IsErrIfNone result Poor (burning user.now denom.now amount self.old) }
+        ensures memory { IsOkIfSome result (burning user.now denom.now amount self.old) }
         ensures err { OnErr result (self.new ≡ self.old) }
     {
         self.carry(Place::user(user), Place::Burnt, denom, amount)
@@ -191,9 +191,9 @@ impl Bank {
     /// Mints tokens for a user. Refused: `TooLarge` exactly where they wouldn't fit 128 bits together with all that is
     /// held of the denomination and what was burnt of it; `NoMemory`.
     pub fn mint(&mut self, user: &UserName, denom: &Denom, amount: u128) -> Result<(), Refusal>
-        ensures ok { OnOk result (after_mint user.now (token_of denom.now amount) self.old ≡ Some self.new) }
-        ensures too_large { IsErrOf result Refusal.TooLarge ↔ (after_mint user.now (token_of denom.now amount) self.old ≡ None) }
-        ensures memory { IsSome (after_mint user.now (token_of denom.now amount) self.old) → IsOkUnless result Refusal.NoMemory }
+        ensures ok { GivesOnOk result (minting user.now denom.now amount self.old) self.new }
+        ensures too_large { IsErrIfNone result TooLarge (minting user.now denom.now amount self.old) }
+        ensures memory { IsOkIfSome result (minting user.now denom.now amount self.old) }
         ensures err { OnErr result (self.new ≡ self.old) }
     {
         self.carry(Place::Outside, Place::user(user), denom, amount)
@@ -208,9 +208,9 @@ impl Bank {
         denom: &Denom,
         amount: u128,
     ) -> Result<(), Refusal>
-        ensures ok { OnOk result (after_refund user.now source.now (token_of denom.now amount) self.old ≡ Some self.new) }
-        ensures poor { IsErrOf result Refusal.Poor ↔ (after_refund user.now source.now (token_of denom.now amount) self.old ≡ None) }
-        ensures memory { IsSome (after_refund user.now source.now (token_of denom.now amount) self.old) → IsOkUnless result Refusal.NoMemory }
+        ensures ok { GivesOnOk result (refunding user.now source.now denom.now amount self.old) self.new }
+        ensures poor { IsErrIfNone result Poor (refunding user.now source.now denom.now amount self.old) }
+        ensures memory { IsOkIfSome result (refunding user.now source.now denom.now amount self.old) }
         ensures err { OnErr result (self.new ≡ self.old) }
     {
         match source {
@@ -231,7 +231,7 @@ impl Bank {
     /// Makes all the moves, one after another, or none. Refused as the first that is refused; `NoMemory`.
     pub fn apply_all(&mut self, moves: &[Move]) -> Result<(), Refusal>
         ensures ok { OnOk result (after_moves moves.now self.old ≡ Ok self.new) }
-        ensures refused { IfErr result (λ e. (e ≡ NoMemory) ⊎ (after_moves moves.now self.old ≡ Err e)) }
+        ensures refused { FailsAs result (after_moves moves.now self.old) }
         ensures err { OnErr result (self.new ≡ self.old) }
     {
         let changes = Changes::of_moves(self.alloc, &self.books, moves)?;
@@ -242,7 +242,7 @@ impl Bank {
     /// `NoMemory`.
     pub fn check(&self, moves: &[Move]) -> Result<(), Refusal>
         ensures ok { OnOk result (IsOk (after_moves moves.now self.now)) }
-        ensures refused { IfErr result (λ e. (e ≡ NoMemory) ⊎ (after_moves moves.now self.now ≡ Err e)) }
+        ensures refused { FailsAs result (after_moves moves.now self.now) }
     {
         Changes::of_moves(self.alloc, &self.books, moves)?;
         Ok(())
@@ -270,9 +270,9 @@ impl Bank {
         denom: &Denom,
         amount: u128,
     ) -> Result<(), Refusal>
-        ensures ok { OnOk result (after_carrying from.entry to.entry (token_of denom.now amount) self.old ≡ Ok self.new) }
-        ensures memory { IfErr result (λ e. (e ≡ NoMemory) ⊎ (after_carrying from.entry to.entry (token_of denom.now amount) self.old ≡ Err e)) }
-        ensures refused { (e : Refusal) → after_carrying from.entry to.entry (token_of denom.now amount) self.old ≡ Err e → IsErrOf result e }
+        ensures ok { OnOk result (carrying from.entry to.entry denom.now amount self.old ≡ Ok self.new) }
+        ensures memory { FailsAs result (carrying from.entry to.entry denom.now amount self.old) }
+        ensures refused { FailsIf result (carrying from.entry to.entry denom.now amount self.old) }
         ensures err { OnErr result (self.new ≡ self.old) }
     {
         let mut changes = Changes::new(self.alloc);

@@ -1,10 +1,10 @@
 //! The maps of a bank.
 
-ghost use Rattle.std.specs.Prelude.{◌≡◌, ◌+◌, ◌<◌, ◌^◌, OnOk, OnErr};
-ghost use Rattle.ibc_machine.specs.ics20.Bank.{balance, with_balance, supply};
+ghost use Rattle.std.specs.Prelude.{◌≡◌, OnOk, OnErr};
+ghost use Rattle.ibc_machine.specs.ics20.Bank.{balance};
 ghost use Rattle.ibc_bank.specs.BankModel.{IsBalanced, state_after_changes, no_amount, state_of, totals_after};
-ghost use Rattle.ibc_bank.specs.Moves.{burnt_of, with_balances};
 ghost use Rattle.ibc_bank.specs.Parties.{party_text};
+ghost use Rattle.ibc_bank.specs.BookChanges.{FitsHolding, SetsHolding};
 
 use crate::amounts::Amounts;
 use crate::changes::Changes;
@@ -47,8 +47,8 @@ impl BankMaps {
         amount: u128,
     ) -> Result<(), AllocError>
         requires balanced { IsBalanced no_amount (state_of self.old) self.old.totals.pairs }
-        requires fits { supply (with_balance user.now denom.now amount self.old.held.pairs) denom.now + burnt_of (state_of self.old) denom.now < 2 ^ 128 }
-        ensures ok { OnOk result (state_of self.new ≡ with_balances (state_of self.old) (with_balance user.now denom.now amount self.old.held.pairs)) }
+        requires fits { FitsHolding user.now denom.now amount self.old }
+        ensures ok { OnOk result (SetsHolding user.now denom.now amount self.old self.new) }
         ensures balanced { OnOk result (IsBalanced no_amount (state_of self.new) self.new.totals.pairs) }
     {
         let holder = (AccountRef::User(user).holder()?, denom.clone()?);

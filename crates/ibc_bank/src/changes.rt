@@ -1,19 +1,18 @@
 //! What moves change, beside the bank.
 
-ghost use Rattle.std.specs.Prelude.{◌≡◌, ◌⊎◌, ◌++◌, ◌∷◌, [], Some, None, Ok, Err, OnOk, IfOk, IfErr, IsErrOf, IsOkUnless};
-ghost use Rattle.ibc_machine.specs.ics20.Bank.{balance};
-ghost use Rattle.ibc_bank.specs.Parties.{party_text};
-ghost use Rattle.ibc_bank.specs.Moves.{token_of, after_move, after_moves, after_refund, after_settlement};
-ghost use Rattle.ibc_bank.specs.TokenPlaces.{after_taking, after_putting, after_carrying};
-ghost use Rattle.ibc_bank.specs.BankModel.{AreBalanced, IsBalanced, amount_in_transit, no_amount, state_of, state_after_changes};
-ghost use Rattle.ibc_ids.specs.declared.refusal.Refusal.{Refusal};
-ghost use Rattle.ibc_ids.specs.declared.refusal.Refusal.TheVariants.{NoMemory, Poor};
+ghost use Rattle.std.specs.Prelude.{◌≡◌, ◌++◌, ◌∷◌, [], OnOk, IfOk, IsOkUnless};
+ghost use Rattle.ibc_bank.specs.Moves.{after_move, after_moves};
+ghost use Rattle.ibc_bank.specs.BankModel.{AreBalanced, IsBalanced, no_amount, state_of, state_after_changes};
+ghost use Rattle.ibc_ids.specs.declared.refusal.Refusal.TheVariants.{NoMemory};
+ghost use Rattle.ibc_bank.specs.declared.moves.Move.TheVariants as moving;
+ghost use Rattle.ibc_bank.specs.Outcomes.{IsPoorIfNone, FailsPoor, FailsAs, FailsIf};
+ghost use Rattle.ibc_bank.specs.BookChanges.{AreChangesOf, MakesMove, refund_in, MakesRefund, MakesSettlement, carry_in, MakesCarrying, take_in, MakesTaking, MakesPutting, AreBalancedWith, balance_after, AddsHeld, AddsTotal};
 
 use crate::books::BankMaps;
 use crate::holder::{AccountKey, AccountRef};
 use crate::moves::{Move, Source};
 use crate::place::Place;
-use ibc_ids::{Denom, Refusal, UserName};
+use ibc_ids::{ChannelId, Denom, Refusal, UserName};
 use std::alloc::{AllocError, Global};
 
 /// What moves change in a bank, in their order: the new amounts. The bank itself is as before.
@@ -45,9 +44,9 @@ impl Changes {
         moves: &[Move],
     ) -> Result<Changes, Refusal>
         requires { IsBalanced no_amount (state_of books.now) books.now.totals.pairs }
-        ensures ok { IfOk result (λ changes. after_moves moves.now (state_of books.now) ≡ Ok (state_after_changes changes books.now)) }
+        ensures ok { IfOk result (λ changes. AreChangesOf moves.now books.now changes) }
         ensures balanced { IfOk result (λ changes. AreBalanced no_amount changes books.now) }
-        ensures refused { IfErr result (λ e. (e ≡ NoMemory) ⊎ (after_moves moves.now (state_of books.now) ≡ Err e)) }
+        ensures refused { FailsAs result (after_moves moves.now (state_of books.now)) }
     {
         let mut changes = Changes::new(alloc);
         for step in moves {
@@ -59,9 +58,9 @@ impl Changes {
     /// Makes a move. A refusal is that of the move, or `NoMemory`; the changes are of no use then.
     pub(crate) fn apply(&mut self, books: &BankMaps, step: &Move) -> Result<(), Refusal>
         requires { AreBalanced no_amount self.old books.now }
-        ensures ok { OnOk result (after_move step.now (state_after_changes self.old books.now) ≡ Ok (state_after_changes self.new books.now)) }
+        ensures ok { OnOk result (MakesMove step.now self.old self.new books.now) }
         ensures balanced { OnOk result (AreBalanced no_amount self.new books.now) }
-        ensures err { IfErr result (λ e. (e ≡ NoMemory) ⊎ (after_move step.now (state_after_changes self.old books.now) ≡ Err e)) }
+        ensures err { FailsAs result (after_move step.now (state_after_changes self.old books.now)) }
     {
         match step {
             Move::Escrow {
@@ -69,25 +68,13 @@ impl Changes {
                 channel,
                 denom,
                 amount,
-            } => self.carry(
-                books,
-                Place::user(user),
-                Place::escrow(channel),
-                denom,
-                *amount,
-            ),
+            } => self.into_escrow(books, user, channel, denom, *amount),
             Move::Release {
                 channel,
                 user,
                 denom,
                 amount,
-            } => self.carry(
-                books,
-                Place::escrow(channel),
-                Place::user(user),
-                denom,
-                *amount,
-            ),
+            } => self.out_of_escrow(books, channel, user, denom, *amount),
             Move::Burn {
                 user,
                 denom,
@@ -108,6 +95,52 @@ impl Changes {
         }
     }
 
+    // From a user to the escrow account of a channel.
+    fn into_escrow(
+        &mut self,
+        books: &BankMaps,
+        user: &UserName,
+        channel: &ChannelId,
+        denom: &Denom,
+        amount: u128,
+    ) -> Result<(), Refusal>
+        requires { AreBalanced no_amount self.old books.now }
+        ensures ok { OnOk result (MakesMove (moving.Escrow user.now channel.now denom.now amount) self.old self.new books.now) }
+        ensures balanced { OnOk result (AreBalanced no_amount self.new books.now) }
+        ensures err { FailsAs result (after_move (moving.Escrow user.now channel.now denom.now amount) (state_after_changes self.old books.now)) }
+    {
+        self.carry(
+            books,
+            Place::user(user),
+            Place::escrow(channel),
+            denom,
+            amount,
+        )
+    }
+
+    // From the escrow account of a channel to a user.
+    fn out_of_escrow(
+        &mut self,
+        books: &BankMaps,
+        channel: &ChannelId,
+        user: &UserName,
+        denom: &Denom,
+        amount: u128,
+    ) -> Result<(), Refusal>
+        requires { AreBalanced no_amount self.old books.now }
+        ensures ok { OnOk result (MakesMove (moving.Release channel.now user.now denom.now amount) self.old self.new books.now) }
+        ensures balanced { OnOk result (AreBalanced no_amount self.new books.now) }
+        ensures err { FailsAs result (after_move (moving.Release channel.now user.now denom.now amount) (state_after_changes self.old books.now)) }
+    {
+        self.carry(
+            books,
+            Place::escrow(channel),
+            Place::user(user),
+            denom,
+            amount,
+        )
+    }
+
     // Back to a user.
     fn refund(
         &mut self,
@@ -118,10 +151,10 @@ impl Changes {
         amount: u128,
     ) -> Result<(), Refusal>
         requires { AreBalanced no_amount self.old books.now }
-        ensures ok { OnOk result (after_refund user.now source.now (token_of denom.now amount) (state_after_changes self.old books.now) ≡ Some (state_after_changes self.new books.now)) }
+        ensures ok { OnOk result (MakesRefund user.now source.now denom.now amount self.old self.new books.now) }
         ensures balanced { OnOk result (AreBalanced no_amount self.new books.now) }
-        ensures err { IfErr result (λ e. (e ≡ NoMemory) ⊎ ((e ≡ Poor) × (after_refund user.now source.now (token_of denom.now amount) (state_after_changes self.old books.now) ≡ None))) }
-        ensures refused { after_refund user.now source.now (token_of denom.now amount) (state_after_changes self.old books.now) ≡ None → IsErrOf result Refusal.Poor }
+        ensures err { FailsPoor result (refund_in user.now source.now denom.now amount self.old books.now) }
+        ensures refused { IsPoorIfNone result (refund_in user.now source.now denom.now amount self.old books.now) }
     {
         match source {
             Source::Escrow(channel) => self.carry(
@@ -138,7 +171,7 @@ impl Changes {
     // What was burnt isn't refunded any more.
     fn settle(&mut self, books: &BankMaps, denom: &Denom, amount: u128) -> Result<(), Refusal>
         requires { AreBalanced no_amount self.old books.now }
-        ensures ok { OnOk result (state_after_changes self.new books.now ≡ after_settlement (token_of denom.now amount) (state_after_changes self.old books.now)) }
+        ensures ok { OnOk result (MakesSettlement denom.now amount self.old self.new books.now) }
         ensures balanced { OnOk result (AreBalanced no_amount self.new books.now) }
         ensures err { IsOkUnless result NoMemory }
     {
@@ -156,10 +189,10 @@ impl Changes {
         amount: u128,
     ) -> Result<(), Refusal>
         requires { AreBalanced no_amount self.old books.now }
-        ensures ok { OnOk result (after_carrying from.entry to.entry (token_of denom.now amount) (state_after_changes self.old books.now) ≡ Ok (state_after_changes self.new books.now)) }
+        ensures ok { OnOk result (MakesCarrying from.entry to.entry denom.now amount self.old self.new books.now) }
         ensures balanced { OnOk result (AreBalanced no_amount self.new books.now) }
-        ensures err { IfErr result (λ e. (e ≡ NoMemory) ⊎ (after_carrying from.entry to.entry (token_of denom.now amount) (state_after_changes self.old books.now) ≡ Err e)) }
-        ensures refused { (e : Refusal) → after_carrying from.entry to.entry (token_of denom.now amount) (state_after_changes self.old books.now) ≡ Err e → IsErrOf result e }
+        ensures err { FailsAs result (carry_in from.entry to.entry denom.now amount self.old books.now) }
+        ensures refused { FailsIf result (carry_in from.entry to.entry denom.now amount self.old books.now) }
     {
         self.take(books, from, denom, amount)?;
         self.put(books, to, denom, amount)?;
@@ -176,10 +209,10 @@ impl Changes {
         amount: u128,
     ) -> Result<(), Refusal>
         requires { AreBalanced no_amount self.old books.now }
-        ensures ok { OnOk result (after_taking from.entry (token_of denom.now amount) (state_after_changes self.old books.now) ≡ Ok (state_after_changes self.new books.now)) }
-        ensures balanced { OnOk result (AreBalanced (amount_in_transit (token_of denom.now amount)) self.new books.now) }
-        ensures err { IfErr result (λ e. (e ≡ NoMemory) ⊎ (after_taking from.entry (token_of denom.now amount) (state_after_changes self.old books.now) ≡ Err e)) }
-        ensures refused { (e : Refusal) → after_taking from.entry (token_of denom.now amount) (state_after_changes self.old books.now) ≡ Err e → IsErrOf result e }
+        ensures ok { OnOk result (MakesTaking from.entry denom.now amount self.old self.new books.now) }
+        ensures balanced { OnOk result (AreBalancedWith denom.now amount self.new books.now) }
+        ensures err { FailsAs result (take_in from.entry denom.now amount self.old books.now) }
+        ensures refused { FailsIf result (take_in from.entry denom.now amount self.old books.now) }
     {
         match from {
             Place::Account(party) => {
@@ -214,8 +247,8 @@ impl Changes {
         denom: &Denom,
         amount: u128,
     ) -> Result<(), AllocError>
-        requires { AreBalanced (amount_in_transit (token_of denom.now amount)) self.old books.now }
-        ensures ok { OnOk result (state_after_changes self.new books.now ≡ after_putting to.entry (token_of denom.now amount) (state_after_changes self.old books.now)) }
+        requires { AreBalancedWith denom.now amount self.old books.now }
+        ensures ok { OnOk result (MakesPutting to.entry denom.now amount self.old self.new books.now) }
         ensures balanced { OnOk result (AreBalanced no_amount self.new books.now) }
     {
         match to {
@@ -236,7 +269,7 @@ impl Changes {
 
     // What an account holds of a denomination after the changes.
     fn held_by(&self, books: &BankMaps, party: AccountRef<'_>, denom: &Denom) -> u128
-        ensures { result ≡ balance (state_after_changes self.now books.now).balances (party_text party.entry) denom.now }
+        ensures { result ≡ balance_after self.now books.now party.entry denom.now }
     {
         books.held.lemma_in_order();
         let mut amount = books.held_by(party, denom);
@@ -254,7 +287,7 @@ impl Changes {
         denom: &Denom,
         amount: u128,
     ) -> Result<(), AllocError>
-        ensures ok { OnOk result (self.new.held.items ≡ self.old.held.items ++ ((party_text party.entry, denom.now), amount) ∷ []) }
+        ensures ok { OnOk result (AddsHeld party.entry denom.now amount self.old self.new) }
         ensures burnt { self.new.burnt.items ≡ self.old.burnt.items }
         ensures totals { self.new.totals.items ≡ self.old.totals.items }
     {
@@ -270,7 +303,7 @@ impl Changes {
     }
 
     fn set_total(&mut self, denom: &Denom, amount: u128) -> Result<(), AllocError>
-        ensures ok { OnOk result (self.new.totals.items ≡ self.old.totals.items ++ (denom.now, amount) ∷ []) }
+        ensures ok { OnOk result (AddsTotal denom.now amount self.old self.new) }
         ensures held { self.new.held.items ≡ self.old.held.items }
         ensures burnt { self.new.burnt.items ≡ self.old.burnt.items }
     {

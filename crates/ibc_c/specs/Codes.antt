@@ -1,14 +1,19 @@
 -- The numbers that calls answer.
-use Rattle.std.specs.Prelude.{◌≡◌, ◌⊎◌, ℕ, Ok, Err, ⊤}
+use Rattle.std.specs.Prelude.{◌≡◌, ◌⊎◌, ℕ, Result, Ok, Err, ⊤}
 use Rattle.ibc_ids.specs.Texts.{Text}
 use Rattle.ibc_ids.specs.Refusals.{number_of}
 use Rattle.ibc_wire.specs.Fields.{Spells}
 use Rattle.ibc_wire.specs.Kinds.{kind_of, tag_of}
 use Rattle.ibc_wire.specs.Messages.{message_fields}
+use Rattle.ibc_wire.specs.Reading.{proof_of}
 use Rattle.ibc_wire.specs.declared.messages.Message.{Message}
 use Rattle.ibc_machine.specs.chain.Checks.{Checked}
+use Rattle.ibc_calls.specs.declared.answer.Refused.{Refused}
 use Rattle.ibc_calls.specs.declared.proofs.ProofKind.{ProofKind}
 use Rattle.ibc_calls.specs.declared.proofs.ProofKind.TheVariants.{Present, Absent}
+use Rattle.ibc_calls.specs.CallAnswers.{Numbered}
+use Rattle.ibc_calls.specs.Handles.{Finds}
+use Rattle.ibc_calls.specs.JudgedProofs.{kind_in}
 
 -- 0 where nothing was refused, else the number of the refusal
 abbrev pub code_of : Checked ⊤ → ℕ
@@ -31,3 +36,12 @@ kind_number Absent = 2
 abbrev pub IsKindWritten : Checked ProofKind → ℕ → ℕ → ℕ → Type 0
 IsKindWritten (Ok kind) old new answer = (answer ≡ 0) × (new ≡ kind_number kind)
 IsKindWritten (Err refusal) old new answer = (answer ≡ number_of refusal) × (new ≡ old)
+
+-- the kind that the bytes of a proof show is told; or they spell none, or memory ran out (1), and nothing is told
+abbrev pub TellsKind : Text → ℕ → ℕ → ℕ → Type 0
+TellsKind bytes old new answer =
+    ((answer ≡ 1) × (new ≡ old)) ⊎ IsKindWritten (kind_in (proof_of bytes)) old new answer
+
+-- the number is that of an answer by which what is so was found and written
+abbrev pub NumbersFound : (Result Text Refused → Type 0) → Text → Text → ℕ → ℕ → ℕ → Type 0
+NumbersFound is old new size size' number = Numbered (Finds is old new size size') number

@@ -1,14 +1,11 @@
 //! Proofs and messages, with no ledger.
 
 ghost use Rattle.std.specs.Prelude.{◌≡◌, ◌⊎◌};
-ghost use Rattle.ibc_merkle.specs.Proofs.{accepts_absent, accepts_present};
-ghost use Rattle.ibc_wire.specs.Reading.{proof_of};
-ghost use Rattle.ibc_calls.specs.JudgedProofs.{proof_verdict, kind_in};
 ghost use Rattle.ibc_calls.specs.CallAnswers.{Numbered};
 ghost use Rattle.ibc_calls.specs.ProofForms.{FindsForm, FindsProofOf};
-ghost use Rattle.ibc_calls.specs.ProofReads.{FindsKey, FindsShown, TellsProof};
-ghost use Rattle.ibc_calls.specs.Handles.{Finds};
-ghost use Rattle.ibc_c.specs.Codes.{IsKindWritten, IsTagged, code_of, kind_number};
+ghost use Rattle.ibc_calls.specs.ProofReads.{FindsKey, FindsShown, TellsProof, proof_output};
+ghost use Rattle.ibc_calls.specs.JudgedProofs.{judged_present, judged_absent};
+ghost use Rattle.ibc_c.specs.Codes.{IsTagged, code_of, kind_number, TellsKind, NumbersFound};
 
 use ibc_calls::{ProofKind, kind_of, number, show_absent, show_present, tag_of};
 use ibc_ids::Refusal;
@@ -25,7 +22,7 @@ pub extern "C" fn ibcw_verify_present(
     value: &[u8],
     proof: &[u8],
 ) -> u32
-    ensures { (result ≡ 1) ⊎ (result ≡ code_of (proof_verdict root.now proof.now (λ p. accepts_present p root.now key.now value.now))) }
+    ensures { (result ≡ 1) ⊎ (result ≡ code_of (judged_present root.now key.now value.now proof.now)) }
 {
     code_of(show_present(alloc, root, key, value, proof))
 }
@@ -34,7 +31,7 @@ pub extern "C" fn ibcw_verify_present(
 /// `ibcw_verify_present`.
 #[unsafe(no_mangle)]
 pub extern "C" fn ibcw_verify_absent(alloc: Global, root: &[u8], key: &[u8], proof: &[u8]) -> u32
-    ensures { (result ≡ 1) ⊎ (result ≡ code_of (proof_verdict root.now proof.now (λ p. accepts_absent p root.now key.now))) }
+    ensures { (result ≡ 1) ⊎ (result ≡ code_of (judged_absent root.now key.now proof.now)) }
 {
     code_of(show_absent(alloc, root, key, proof))
 }
@@ -43,7 +40,7 @@ pub extern "C" fn ibcw_verify_absent(alloc: Global, root: &[u8], key: &[u8], pro
 /// isn't there. Answers the number of `BadMessage` exactly where they spell none, and 1 where memory ran out: then nothing is told.
 #[unsafe(no_mangle)]
 pub extern "C" fn ibcw_proof_kind(alloc: Global, proof: &[u8], kind: &mut u8) -> u32
-    ensures { ((result ≡ 1) × (kind.new ≡ kind.old)) ⊎ IsKindWritten (kind_in (proof_of proof.now)) kind.old kind.new result }
+    ensures { TellsKind proof.now kind.old kind.new result }
 {
     match kind_of(alloc, proof) {
         Ok(found) => {
@@ -72,7 +69,7 @@ pub extern "C" fn ibcw_proof_key(
     key: &mut [u8],
     size: &mut usize,
 ) -> u32
-    ensures { Numbered (Finds (FindsKey proof.now) key.old key.new size.old size.new) result }
+    ensures { NumbersFound (FindsKey proof.now) key.old key.new size.old size.new result }
 {
     number(ibc_calls::proof_key(alloc, proof, key, size))
 }
@@ -85,7 +82,7 @@ pub extern "C" fn ibcw_proof_value(
     value: &mut [u8],
     size: &mut usize,
 ) -> u32
-    ensures { Numbered (Finds (FindsShown proof.now) value.old value.new size.old size.new) result }
+    ensures { NumbersFound (FindsShown proof.now) value.old value.new size.old size.new result }
 {
     number(ibc_calls::proof_value(alloc, proof, value, size))
 }
@@ -98,7 +95,7 @@ pub extern "C" fn ibcw_proof_to_ics23(
     form: &mut [u8],
     size: &mut usize,
 ) -> u32
-    ensures { Numbered (Finds (FindsForm proof.now) form.old form.new size.old size.new) result }
+    ensures { NumbersFound (FindsForm proof.now) form.old form.new size.old size.new result }
 {
     number(ibc_calls::proof_to_ics23(alloc, proof, form, size))
 }
@@ -111,7 +108,7 @@ pub extern "C" fn ibcw_proof_of_ics23(
     proof: &mut [u8],
     size: &mut usize,
 ) -> u32
-    ensures { Numbered (Finds (FindsProofOf form.now) proof.old proof.new size.old size.new) result }
+    ensures { NumbersFound (FindsProofOf form.now) proof.old proof.new size.old size.new result }
 {
     number(ibc_calls::proof_of_ics23(alloc, form, proof, size))
 }
@@ -126,7 +123,7 @@ pub extern "C" fn ibcw_message_proof(
     proof: &mut [u8],
     size: &mut usize,
 ) -> u32
-    ensures { Numbered (TellsProof index message.now (record { height = height.old; bytes = proof.old; size = size.old }) (record { height = height.new; bytes = proof.new; size = size.new })) result }
+    ensures { Numbered (TellsProof index message.now (proof_output height.old proof.old size.old) (proof_output height.new proof.new size.new)) result }
 {
     number(ibc_calls::message_proof(alloc, message, index, height, proof, size))
 }

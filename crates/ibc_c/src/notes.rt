@@ -2,8 +2,8 @@
 
 ghost use Rattle.std.specs.Prelude.{◌≡◌};
 ghost use Rattle.ibc_calls.specs.CallAnswers.{Numbered};
-ghost use Rattle.ibc_calls.specs.Handles.{Finds};
 ghost use Rattle.ibc_calls.specs.NoteReads.{FindsChannel, FindsNote, MakesNotes, TellsChannelCount, TellsNoteCount};
+ghost use Rattle.ibc_c.specs.Codes.{NumbersFound};
 
 use ibc_calls::number;
 use ibc_handle::Handle;
@@ -43,7 +43,7 @@ pub extern "C" fn ibcw_note_channel(
     size: &mut usize,
 ) -> u32
     ensures kept { notes.new.value ≡ notes.old.value }
-    ensures found { Numbered (Finds (FindsChannel chain channel notes.old.value) name.old name.new size.old size.new) result }
+    ensures found { NumbersFound (FindsChannel chain channel notes.old.value) name.old name.new size.old size.new result }
 {
     number(ibc_calls::note_channel(alloc, notes, chain, channel, name, size))
 }
@@ -75,7 +75,7 @@ pub extern "C" fn ibcw_note(
     size: &mut usize,
 ) -> u32
     ensures kept { notes.new.value ≡ notes.old.value }
-    ensures found { Numbered (Finds (FindsNote chain channel index notes.old.value) text.old text.new size.old size.new) result }
+    ensures found { NumbersFound (FindsNote chain channel index notes.old.value) text.old text.new size.old size.new result }
 {
     number(ibc_calls::note(alloc, notes, chain, channel, index, text, size))
 }

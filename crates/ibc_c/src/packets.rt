@@ -2,8 +2,9 @@
 
 ghost use Rattle.std.specs.Prelude.{◌≡◌};
 ghost use Rattle.ibc_calls.specs.CallAnswers.{Numbered};
-ghost use Rattle.ibc_calls.specs.Handles.{Finds};
-ghost use Rattle.ibc_calls.specs.PacketReads.{FindsAck, FindsCarriedAck, FindsCarriedPacket, FindsPart, FindsSent, TellsPacket};
+ghost use Rattle.ibc_calls.specs.PacketReads.{FindsAck, FindsCarriedAck, FindsPart, FindsSent, TellsPacket};
+ghost use Rattle.ibc_c.specs.Codes.{NumbersFound};
+ghost use Rattle.ibc_c.specs.NumberedCalls.{NumbersCarriedPacket};
 
 use ibc_calls::{PacketNumbers, number};
 use ibc_handle::Handle;
@@ -17,7 +18,7 @@ pub extern "C" fn ibcw_message_packet(
     packet: &mut [u8],
     size: &mut usize,
 ) -> u32
-    ensures { Numbered (Finds (FindsCarriedPacket message.now) packet.old packet.new size.old size.new) result }
+    ensures { NumbersCarriedPacket message.now packet.old packet.new size.old size.new result }
 {
     number(ibc_calls::message_packet(alloc, message, packet, size))
 }
@@ -30,7 +31,7 @@ pub extern "C" fn ibcw_message_ack(
     ack: &mut [u8],
     size: &mut usize,
 ) -> u32
-    ensures { Numbered (Finds (FindsCarriedAck message.now) ack.old ack.new size.old size.new) result }
+    ensures { NumbersFound (FindsCarriedAck message.now) ack.old ack.new size.old size.new result }
 {
     number(ibc_calls::message_ack(alloc, message, ack, size))
 }
@@ -56,7 +57,7 @@ pub extern "C" fn ibcw_packet_part(
     text: &mut [u8],
     size: &mut usize,
 ) -> u32
-    ensures { Numbered (Finds (FindsPart part packet.now) text.old text.new size.old size.new) result }
+    ensures { NumbersFound (FindsPart part packet.now) text.old text.new size.old size.new result }
 {
     number(ibc_calls::packet_part(alloc, packet, part, text, size))
 }
@@ -73,7 +74,7 @@ pub extern "C" fn ibcw_packet(
     size: &mut usize,
 ) -> u32
     ensures kept { ledger.new.value ≡ ledger.old.value }
-    ensures found { Numbered (Finds (FindsSent port.now channel.now sequence ledger.old.value) packet.old packet.new size.old size.new) result }
+    ensures found { NumbersFound (FindsSent port.now channel.now sequence ledger.old.value) packet.old packet.new size.old size.new result }
 {
     number(ibc_calls::sent_packet(alloc, ledger, port, channel, sequence, packet, size))
 }
@@ -90,7 +91,7 @@ pub extern "C" fn ibcw_ack(
     size: &mut usize,
 ) -> u32
     ensures kept { ledger.new.value ≡ ledger.old.value }
-    ensures found { Numbered (Finds (FindsAck port.now channel.now sequence ledger.old.value) ack.old ack.new size.old size.new) result }
+    ensures found { NumbersFound (FindsAck port.now channel.now sequence ledger.old.value) ack.old ack.new size.old size.new result }
 {
     number(ibc_calls::written_ack(alloc, ledger, port, channel, sequence, ack, size))
 }

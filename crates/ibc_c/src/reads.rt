@@ -3,11 +3,12 @@
 ghost use Rattle.std.specs.Prelude.{◌≡◌};
 ghost use Rattle.ibc_calls.specs.CallAnswers.{Numbered};
 ghost use Rattle.ibc_calls.specs.ChannelReads.{TellsTotals};
-ghost use Rattle.ibc_calls.specs.Handles.{Finds};
-ghost use Rattle.ibc_calls.specs.Holdings.{FindsHolding, MakesBalances, TellsHolding, TellsHoldingCount};
-ghost use Rattle.ibc_calls.specs.History.{TellsEvent, TellsLength, TellsReply};
+ghost use Rattle.ibc_calls.specs.Holdings.{FindsHolding, TellsHolding, TellsHoldingCount};
+ghost use Rattle.ibc_calls.specs.History.{TellsEvent, TellsLength, TellsReply, reply_output, event_output};
 ghost use Rattle.ibc_calls.specs.ViewProofs.{FindsProved};
-ghost use Rattle.ibc_calls.specs.Reads.{FindsValue, TellsBalance, TellsEscrow, TellsSupply};
+ghost use Rattle.ibc_calls.specs.Reads.{TellsSupply};
+ghost use Rattle.ibc_c.specs.Codes.{NumbersFound};
+ghost use Rattle.ibc_c.specs.NumberedCalls.{NumbersBalances, NumbersBalance, NumbersEscrow, NumbersRead};
 
 use ibc_calls::{Amount, ChannelTotals, EventCode, ReplyCode, number};
 use ibc_handle::Handle;
@@ -33,7 +34,7 @@ pub extern "C" fn ibcw_reply(
     size: &mut usize,
 ) -> u32
     ensures kept { ledger.new.value ≡ ledger.old.value }
-    ensures told { Numbered (TellsReply index ledger.old.value (record { told = told.old; bytes = bytes.old; size = size.old }) (record { told = told.new; bytes = bytes.new; size = size.new })) result }
+    ensures told { Numbered (TellsReply index ledger.old.value (reply_output told.old bytes.old size.old) (reply_output told.new bytes.new size.new)) result }
 {
     number(ibc_calls::history_reply(alloc, ledger, index, told, bytes, size))
 }
@@ -49,7 +50,7 @@ pub extern "C" fn ibcw_event(
     size: &mut usize,
 ) -> u32
     ensures kept { ledger.new.value ≡ ledger.old.value }
-    ensures told { Numbered (TellsEvent index ledger.old.value (record { asked = asked.old; bytes = bytes.old; size = size.old }) (record { asked = asked.new; bytes = bytes.new; size = size.new })) result }
+    ensures told { Numbered (TellsEvent index ledger.old.value (event_output asked.old bytes.old size.old) (event_output asked.new bytes.new size.new)) result }
 {
     number(ibc_calls::history_event(alloc, ledger, index, asked, bytes, size))
 }
@@ -64,7 +65,7 @@ pub extern "C" fn ibcw_query(
     size: &mut usize,
 ) -> u32
     ensures kept { ledger.new.value ≡ ledger.old.value }
-    ensures found { Numbered (Finds (FindsValue path.now ledger.old.value) value.old value.new size.old size.new) result }
+    ensures found { NumbersRead path.now ledger.old.value value.old value.new size.old size.new result }
 {
     number(ibc_calls::query(alloc, ledger, path, value, size))
 }
@@ -80,7 +81,7 @@ pub extern "C" fn ibcw_prove(
     size: &mut usize,
 ) -> u32
     ensures kept { ledger.new.value ≡ ledger.old.value }
-    ensures found { Numbered (Finds (FindsProved height path.now ledger.old.value) proof.old proof.new size.old size.new) result }
+    ensures found { NumbersFound (FindsProved height path.now ledger.old.value) proof.old proof.new size.old size.new result }
 {
     number(ibc_calls::prove(alloc, ledger, height, path, proof, size))
 }
@@ -93,7 +94,7 @@ pub extern "C" fn ibcw_make_balances(
     balances: &mut Handle,
 ) -> u32
     ensures kept { ledger.new.value ≡ ledger.old.value }
-    ensures made { Numbered (MakesBalances ledger.old.value balances.old.value balances.new.value) result }
+    ensures made { NumbersBalances ledger.old.value balances.old.value balances.new.value result }
 {
     number(ibc_calls::make_balances(alloc, ledger, balances))
 }
@@ -123,7 +124,7 @@ pub extern "C" fn ibcw_holding(
     size: &mut usize,
 ) -> u32
     ensures kept { balances.new.value ≡ balances.old.value }
-    ensures found { Numbered (Finds (FindsHolding chain index balances.old.value) text.old text.new size.old size.new) result }
+    ensures found { NumbersFound (FindsHolding chain index balances.old.value) text.old text.new size.old size.new result }
 {
     number(ibc_calls::holding(alloc, balances, chain, index, text, size))
 }
@@ -153,7 +154,7 @@ pub extern "C" fn ibcw_balance(
     amount: &mut Amount,
 ) -> u32
     ensures kept { ledger.new.value ≡ ledger.old.value }
-    ensures told { Numbered (TellsBalance user.now denom.now ledger.old.value amount.old amount.new) result }
+    ensures told { NumbersBalance user.now denom.now ledger.old.value amount.old amount.new result }
 {
     number(ibc_calls::balance(alloc, ledger, user, denom, amount))
 }
@@ -168,7 +169,7 @@ pub extern "C" fn ibcw_escrow(
     amount: &mut Amount,
 ) -> u32
     ensures kept { ledger.new.value ≡ ledger.old.value }
-    ensures told { Numbered (TellsEscrow channel.now denom.now ledger.old.value amount.old amount.new) result }
+    ensures told { NumbersEscrow channel.now denom.now ledger.old.value amount.old amount.new result }
 {
     number(ibc_calls::escrow(alloc, ledger, channel, denom, amount))
 }

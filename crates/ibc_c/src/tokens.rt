@@ -1,9 +1,8 @@
 //! The data of packets of tokens, taken apart.
 
-ghost use Rattle.std.specs.Prelude.{◌≡◌};
 ghost use Rattle.ibc_calls.specs.CallAnswers.{Numbered};
-ghost use Rattle.ibc_calls.specs.Handles.{Finds};
-ghost use Rattle.ibc_calls.specs.TokenReads.{FindsDataPart, TellsDataCount, TellsDataToken};
+ghost use Rattle.ibc_calls.specs.TokenReads.{FindsDataPart, TellsDataCount, TellsDataToken, token_output};
+ghost use Rattle.ibc_c.specs.Codes.{NumbersFound};
 
 use ibc_calls::{Amount, number};
 use std::alloc::Global;
@@ -17,7 +16,7 @@ pub extern "C" fn ibcw_data_part(
     text: &mut [u8],
     size: &mut usize,
 ) -> u32
-    ensures { Numbered (Finds (FindsDataPart part payload.now) text.old text.new size.old size.new) result }
+    ensures { NumbersFound (FindsDataPart part payload.now) text.old text.new size.old size.new result }
 {
     number(ibc_calls::data_part(alloc, payload, part, text, size))
 }
@@ -40,7 +39,7 @@ pub extern "C" fn ibcw_data_token(
     denom: &mut [u8],
     size: &mut usize,
 ) -> u32
-    ensures { Numbered (TellsDataToken index payload.now (record { amount = amount.old; bytes = denom.old; size = size.old }) (record { amount = amount.new; bytes = denom.new; size = size.new })) result }
+    ensures { Numbered (TellsDataToken index payload.now (token_output amount.old denom.old size.old) (token_output amount.new denom.new size.new)) result }
 {
     number(ibc_calls::data_token(alloc, payload, index, amount, denom, size))
 }

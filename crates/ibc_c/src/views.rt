@@ -2,9 +2,9 @@
 
 ghost use Rattle.std.specs.Prelude.{◌≡◌};
 ghost use Rattle.ibc_calls.specs.CallAnswers.{Numbered};
-ghost use Rattle.ibc_calls.specs.Handles.{Finds};
-ghost use Rattle.ibc_calls.specs.Reads.{FindsMessage};
-ghost use Rattle.ibc_calls.specs.Views.{FindsProof, FindsRoot, MakesPlan, MakesView, SharesView, TellsHeights};
+ghost use Rattle.ibc_calls.specs.Views.{FindsRoot, MakesView, SharesView, TellsHeights};
+ghost use Rattle.ibc_c.specs.Codes.{NumbersFound};
+ghost use Rattle.ibc_c.specs.NumberedCalls.{NumbersPlan, NumbersProof, NumbersOwed};
 
 use ibc_calls::{ViewHeights, number};
 use ibc_handle::Handle;
@@ -50,7 +50,7 @@ pub extern "C" fn ibcw_view_root(
     size: &mut usize,
 ) -> u32
     ensures kept { view.new.value ≡ view.old.value }
-    ensures found { Numbered (Finds (FindsRoot view.old.value) root.old root.new size.old size.new) result }
+    ensures found { NumbersFound (FindsRoot view.old.value) root.old root.new size.old size.new result }
 {
     number(ibc_calls::view_root(alloc, view, root, size))
 }
@@ -65,7 +65,7 @@ pub extern "C" fn ibcw_view_proof(
     size: &mut usize,
 ) -> u32
     ensures kept { view.new.value ≡ view.old.value }
-    ensures found { Numbered (Finds (FindsProof path.now view.old.value) proof.old proof.new size.old size.new) result }
+    ensures found { NumbersProof path.now view.old.value proof.old proof.new size.old size.new result }
 {
     number(ibc_calls::view_proof(alloc, view, path, proof, size))
 }
@@ -80,7 +80,7 @@ pub extern "C" fn ibcw_make_plan(
 ) -> u32
     ensures from { from.new.value ≡ from.old.value }
     ensures to { to.new.value ≡ to.old.value }
-    ensures made { Numbered (MakesPlan from.old.value to.old.value plan.old.value plan.new.value) result }
+    ensures made { NumbersPlan from.old.value to.old.value plan.old.value plan.new.value result }
 {
     number(ibc_calls::make_plan(alloc, from, to, plan))
 }
@@ -95,7 +95,7 @@ pub extern "C" fn ibcw_plan_message(
     size: &mut usize,
 ) -> u32
     ensures kept { plan.new.value ≡ plan.old.value }
-    ensures found { Numbered (Finds (FindsMessage index plan.old.value) message.old message.new size.old size.new) result }
+    ensures found { NumbersOwed index plan.old.value message.old message.new size.old size.new result }
 {
     number(ibc_calls::plan_message(alloc, plan, index, message, size))
 }

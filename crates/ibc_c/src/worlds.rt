@@ -1,12 +1,13 @@
 //! How a world is made, and how its ledgers go on.
 
-ghost use Rattle.std.specs.Prelude.{◌≡◌, ◌+◌, ◌*◌, ◌^◌, None};
+ghost use Rattle.std.specs.Prelude.{◌≡◌, None};
 ghost use Rattle.ibc_calls.specs.CallAnswers.{Numbered, answer_number};
 ghost use Rattle.ibc_calls.specs.Events.{AppliesMessage, EndsBlock};
-ghost use Rattle.ibc_calls.specs.Gathering.{AreApart, Audits, JoinsLedger};
-ghost use Rattle.ibc_calls.specs.GenesisHandles.{BalanceAdded, BeginsGenesis, ChainAdded};
+ghost use Rattle.ibc_calls.specs.Gathering.{AreApart};
+ghost use Rattle.ibc_calls.specs.GenesisHandles.{BeginsGenesis, ChainAdded};
 ghost use Rattle.ibc_calls.specs.Handles.{freed};
-ghost use Rattle.ibc_calls.specs.WorldHandles.{MakesLedgers, TakesLedger};
+ghost use Rattle.ibc_calls.specs.History.{reply_output};
+ghost use Rattle.ibc_c.specs.NumberedCalls.{NumbersNewBalance, NumbersLedgers, NumbersTake, NumbersJoin, NumbersAudit};
 
 use ibc_calls::{ReplyCode, number};
 use ibc_handle::Handle;
@@ -43,7 +44,7 @@ pub extern "C" fn ibcw_add_balance(
     high: u64,
     low: u64,
 ) -> u32
-    ensures { Numbered (BalanceAdded user.now denom.now (high * 2 ^ 64 + low) genesis.old.value genesis.new.value) result }
+    ensures { NumbersNewBalance user.now denom.now high low genesis.old.value genesis.new.value result }
 {
     number(ibc_calls::add_balance(alloc, genesis, user, denom, high, low))
 }
@@ -57,7 +58,7 @@ pub extern "C" fn ibcw_make_numbered_ledgers(
     ledgers: &mut Handle,
 ) -> u32
     ensures kept { genesis.new.value ≡ genesis.old.value }
-    ensures made { Numbered (MakesLedgers world genesis.old.value ledgers.old.value ledgers.new.value) result }
+    ensures made { NumbersLedgers world genesis.old.value ledgers.old.value ledgers.new.value result }
 {
     number(ibc_calls::make_ledgers(alloc, genesis, world, ledgers))
 }
@@ -65,7 +66,7 @@ pub extern "C" fn ibcw_make_numbered_ledgers(
 /// Moves the first of the ledgers to an empty handle. As `take_ledger`.
 #[unsafe(no_mangle)]
 pub extern "C" fn ibcw_take_ledger(alloc: Global, ledgers: &mut Handle, ledger: &mut Handle) -> u32
-    ensures { Numbered (TakesLedger ledgers.old.value ledgers.new.value ledger.old.value ledger.new.value) result }
+    ensures { NumbersTake ledgers.old.value ledgers.new.value ledger.old.value ledger.new.value result }
 {
     number(ibc_calls::take_ledger(alloc, ledgers, ledger))
 }
@@ -74,7 +75,7 @@ pub extern "C" fn ibcw_take_ledger(alloc: Global, ledgers: &mut Handle, ledger: 
 #[unsafe(no_mangle)]
 pub extern "C" fn ibcw_join_ledger(alloc: Global, ledgers: &mut Handle, ledger: &mut Handle) -> u32
     requires { AreApart ledgers.old.value ledger.old.value }
-    ensures { Numbered (JoinsLedger ledgers.old.value ledgers.new.value ledger.old.value ledger.new.value) result }
+    ensures { NumbersJoin ledgers.old.value ledgers.new.value ledger.old.value ledger.new.value result }
 {
     number(ibc_calls::join_ledger(alloc, ledgers, ledger))
 }
@@ -82,7 +83,7 @@ pub extern "C" fn ibcw_join_ledger(alloc: Global, ledgers: &mut Handle, ledger: 
 /// Audits the ledgers of a world, which stay, and puts what they hold into an empty handle. As `make_audit`.
 #[unsafe(no_mangle)]
 pub extern "C" fn ibcw_make_audit(alloc: Global, ledgers: &mut Handle, audit: &mut Handle) -> u32
-    ensures { Numbered (Audits ledgers.old.value ledgers.new.value audit.old.value audit.new.value) result }
+    ensures { NumbersAudit ledgers.old.value ledgers.new.value audit.old.value audit.new.value result }
 {
     number(ibc_calls::make_audit(alloc, ledgers, audit))
 }
@@ -97,7 +98,7 @@ pub extern "C" fn ibcw_apply(
     bytes: &mut [u8],
     size: &mut usize,
 ) -> u32
-    ensures { Numbered (AppliesMessage message.now ledger.old.value ledger.new.value (record { told = told.old; bytes = bytes.old; size = size.old }) (record { told = told.new; bytes = bytes.new; size = size.new })) result }
+    ensures { Numbered (AppliesMessage message.now ledger.old.value ledger.new.value (reply_output told.old bytes.old size.old) (reply_output told.new bytes.new size.new)) result }
 {
     number(ibc_calls::apply(alloc, ledger, message, told, bytes, size))
 }
@@ -112,7 +113,7 @@ pub extern "C" fn ibcw_end_block(
     bytes: &mut [u8],
     size: &mut usize,
 ) -> u32
-    ensures { Numbered (EndsBlock next_time ledger.old.value ledger.new.value (record { told = told.old; bytes = bytes.old; size = size.old }) (record { told = told.new; bytes = bytes.new; size = size.new })) result }
+    ensures { Numbered (EndsBlock next_time ledger.old.value ledger.new.value (reply_output told.old bytes.old size.old) (reply_output told.new bytes.new size.new)) result }
 {
     number(ibc_calls::end_block(alloc, ledger, next_time, told, bytes, size))
 }

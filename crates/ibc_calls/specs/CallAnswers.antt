@@ -1,6 +1,7 @@
 -- What calls answer, and by which numbers.
-use Rattle.std.specs.Prelude.{◌≡◌, ℕ, Result, Ok, Err, ⊤}
+use Rattle.std.specs.Prelude.{◌≡◌, ◌⊎◌, ℕ, Result, Ok, Err, ⊤}
 use Rattle.ibc_ids.specs.Refusals as core
+use Rattle.ibc_ids.specs.declared.refusal.Refusal.TheVariants.{BadName, NoMemory}
 use Rattle.ibc_machine.specs.declared.reply.Reply.{Reply}
 use Rattle.ibc_machine.specs.declared.reply.Reply.TheVariants as reply
 use Rattle.ibc_calls.specs.declared.answer.Refused.{Refused}
@@ -35,3 +36,7 @@ Numbered is number = (answer : Answer) × (number ≡ answer_number answer) × i
 abbrev pub answer_to : Reply → Answer
 answer_to (reply.Ok effect) = Ok tt
 answer_to (reply.No refusal) = Err (Core refusal)
+
+-- the names aren't of their kinds, as this says, or memory ran out
+abbrev pub IsNameRefused : Type 0 → Refused → Type 0
+IsNameRefused named refused = ((refused ≡ Core BadName) × ¬ named) ⊎ (refused ≡ Core NoMemory)

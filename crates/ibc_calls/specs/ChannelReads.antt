@@ -5,6 +5,7 @@ use Rattle.ibc_ids.specs.declared.refusal.Refusal.TheVariants.{NoMemory, BadName
 use Rattle.ibc_machine.specs.declared.totals.Totals.{Totals}
 use Rattle.ibc_machine.specs.ledger.Ledgers.{Ledger}
 use Rattle.ibc_world_core.specs.Totals.{AreTotals, AreRefused, TracksPeer}
+use Rattle.ibc_ledger.specs.LedgerModel.{LedgerModel}
 use Rattle.ibc_handle.specs.declared.handle_value.HandleValue.{HandleValue}
 use Rattle.ibc_handle.specs.declared.handle_value.HandleValue.TheVariants as held
 use Rattle.ibc_handle.specs.declared.handle_value.WorldLedger.{WorldLedger}
@@ -36,6 +37,10 @@ TellsSums channel denom ledger peer old new answer =
     AreTold channel denom ledger peer new answer
     ⊎ ((new ≡ old) × (((answer ≡ Err (Core BadName)) × (AreEscrow channel denom → ⊥)) ⊎ (answer ≡ Err (Core NoMemory))
     ⊎ (AreEscrow channel denom × IsOfCore channel denom ledger peer answer)))
+
+-- the same of ledgers as their callers see them
+abbrev pub TellsSumsOf : Text → Text → LedgerModel → LedgerModel → ChannelTotals → ChannelTotals → Answer → Type 0
+TellsSumsOf channel denom mine peer old new answer = TellsSums channel denom mine.ledger peer.ledger old new answer
 
 -- nothing is told, for this reason
 abbrev pub TellsNothing : ChannelTotals → ChannelTotals → Answer → Refused → Type 0

@@ -12,6 +12,7 @@ use Rattle.ibc_ledger.specs.LedgerModel.{LedgerModel}
 use Rattle.ibc_ledger.specs.HistoryGrowth.{AddsOrNot}
 use Rattle.ibc_handle.specs.declared.handle_value.HandleValue.{HandleValue}
 use Rattle.ibc_handle.specs.declared.handle_value.HandleValue.TheVariants as held
+use Rattle.ibc_calls.specs.declared.history.ReplyCode.{ReplyCode}
 use Rattle.ibc_calls.specs.declared.answer.Refused.TheVariants.{Core, Empty, OtherKind, NoMessage}
 use Rattle.ibc_calls.specs.CallAnswers.{Answer, answer_to}
 use Rattle.ibc_calls.specs.Handles.{IsPut}
@@ -28,6 +29,11 @@ LedgerReplies does (Some old) new out out' answer = (new ≡ Some old) × (out' 
 -- the reply is told, and the bytes that go with it are written where there is room
 abbrev pub IsReplyTold : Reply → ReplyOutput → ReplyOutput → Type 0
 IsReplyTold said out out' = (out'.told ≡ reply_code said) × IsPut (reply_bytes said) out.bytes out'.bytes out'.size
+
+-- the same, where each part is told at a place of its own
+abbrev pub IsReplyGiven : Reply → ReplyCode → ReplyCode → Text → Text → ℕ → ℕ → Type 0
+IsReplyGiven said told told' bytes bytes' size size' =
+    IsReplyTold said (record { told = told; bytes = bytes; size = size }) (record { told = told'; bytes = bytes'; size = size' })
 
 -- the ledger was asked for the event, publishes in the same table, and its reply is the answer, and is told
 unfoldable pub IsAsked : Event → LedgerModel → LedgerModel → ReplyOutput → ReplyOutput → Answer → Type 0

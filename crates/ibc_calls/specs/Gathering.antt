@@ -1,5 +1,5 @@
 -- Ledgers that were driven apart come together again, and what they hold is told.
-use Rattle.std.specs.Prelude.{◌≡◌, Bool, true, false, Option, Some, None, Result, Ok, Err, ⊤, ◌⊎◌, ℕ}
+use Rattle.std.specs.Prelude.{◌≡◌, Bool, true, false, Option, Some, None, Result, Ok, Err, ⊤}
 use Rattle.ibc_ids.specs.declared.refusal.Refusal.TheVariants.{NoMemory, BadMessage}
 use Rattle.ibc_world_core.specs.WorldAudits.{IsAudit, is_whole}
 use Rattle.ibc_world_core.specs.EveryAudit.{AreLawful}

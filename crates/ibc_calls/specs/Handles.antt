@@ -4,7 +4,7 @@ use Rattle.ibc_ids.specs.Texts.{Text}
 use Rattle.ibc_ids.specs.declared.refusal.Refusal.TheVariants.{NoMemory}
 use Rattle.ibc_handle.specs.declared.handle_value.HandleValue.{HandleValue}
 use Rattle.ibc_calls.specs.declared.answer.Refused.{Refused}
-use Rattle.ibc_calls.specs.declared.answer.Refused.TheVariants.{Core, Empty, Full, TooShort, OtherKind}
+use Rattle.ibc_calls.specs.declared.answer.Refused.TheVariants.{Core, Empty, Full, TooShort}
 use Rattle.ibc_calls.specs.CallAnswers.{Answer}
 
 -- a handle that holds nothing is refused, and stays so

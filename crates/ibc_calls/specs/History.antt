@@ -11,7 +11,6 @@ use Rattle.ibc_machine.specs.declared.entry.Reading.{Reading}
 use Rattle.ibc_machine.specs.declared.reply.Reply.{Reply}
 use Rattle.ibc_machine.specs.declared.reply.Reply.TheVariants as reply
 use Rattle.ibc_machine.specs.declared.reply.Effect.TheVariants as effect
-use Rattle.ibc_machine.specs.declared.reply.Effect.{Effect}
 use Rattle.ibc_machine.specs.ledger.Replay.{StampedEntry}
 use Rattle.ibc_handle.specs.declared.handle_value.HandleValue.{HandleValue}
 use Rattle.ibc_handle.specs.declared.handle_value.HandleValue.TheVariants as held
@@ -64,6 +63,14 @@ pub record ReplyOutput : Type 0 where
   pub bytes : Text
   pub size : ℕ
 
+-- a reply's code, its bytes, and how many they are
+abbrev pub reply_output : ReplyCode → Text → ℕ → ReplyOutput
+reply_output told bytes size = record { told = told; bytes = bytes; size = size }
+
+-- the bytes that go with an entry's reply are written
+abbrev pub IsReplyWritten : Entry → Text → Text → ℕ → Answer → Type 0
+IsReplyWritten entry old new size answer = IsWritten (reply_bytes entry.reply) old new size answer
+
 abbrev pub WritesReply : Option StampedEntry → ReplyOutput → ReplyOutput → Answer → Type 0
 WritesReply None old new answer = (new ≡ old) × (answer ≡ Err NothingThere)
 WritesReply (Some e) old new answer =
@@ -100,6 +107,10 @@ pub record EventOutput : Type 0 where
   pub bytes : Text
   pub size : ℕ
 
+-- an event's code, its bytes, and how many they are
+abbrev pub event_output : EventCode → Text → ℕ → EventOutput
+event_output asked bytes size = record { asked = asked; bytes = bytes; size = size }
+
 -- what was asked is told with the bytes that spell it, where they could be written out
 abbrev pub WritesEventCode : Entry → Result Text Refused → EventOutput → EventOutput → Answer → Type 0
 WritesEventCode given (Ok bytes) old new answer = (new.asked ≡ event_code given) × IsWritten bytes old.bytes new.bytes new.size answer
@@ -107,6 +118,11 @@ WritesEventCode given (Err why) old new answer = (new ≡ old) × (answer ≡ Er
 
 abbrev pub WritesSpelledEvent : Entry → EventOutput → EventOutput → Answer → Type 0
 WritesSpelledEvent given old new answer = (found : Result Text Refused) × IsEventText given.event found × WritesEventCode given found old new answer
+
+-- the same, where each part is told at a place of its own
+abbrev pub IsEventGiven : Entry → EventCode → EventCode → Text → Text → ℕ → ℕ → Answer → Type 0
+IsEventGiven given asked asked' bytes bytes' size size' answer =
+    WritesSpelledEvent given (record { asked = asked; bytes = bytes; size = size }) (record { asked = asked'; bytes = bytes'; size = size' }) answer
 
 abbrev pub WritesEvent : Option StampedEntry → EventOutput → EventOutput → Answer → Type 0
 WritesEvent None old new answer = (new ≡ old) × (answer ≡ Err NothingThere)

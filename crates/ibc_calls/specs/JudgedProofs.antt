@@ -1,9 +1,10 @@
 -- What a proof shows that is given as its bytes (ICS 23, "Verification").
-use Rattle.std.specs.Prelude.{Bool, ◌==◌, length, Option, Some, None, Ok, Err, ⊤, if◌then◌else◌, ℕ, true, false}
+use Rattle.std.specs.Prelude.{Bool, ◌==◌, length, Option, Some, None, Ok, Err, ⊤, if◌then◌else◌}
 use Rattle.ibc_ids.specs.Texts.{Text}
 use Rattle.ibc_ids.specs.declared.refusal.Refusal.TheVariants.{BadMessage, BadProof}
 use Rattle.ibc_merkle.specs.declared.proof.Proof.{Proof}
 use Rattle.ibc_merkle.specs.declared.proof.Proof.TheVariants.{Present, Absent}
+use Rattle.ibc_merkle.specs.Proofs.{accepts_absent, accepts_present}
 use Rattle.ibc_wire.specs.Reading.{proof_of}
 use Rattle.ibc_machine.specs.chain.Checks.{Checked, require}
 use Rattle.ibc_calls.specs.declared.proofs.ProofKind.{ProofKind}
@@ -21,6 +22,14 @@ proof_test_passed (Some proof) test = test_passed (test proof)
 -- the root has 32 bytes, the bytes spell a proof, and it passes the test: the first of these that fails names the refusal
 abbrev pub proof_verdict : Text → Text → (Proof → Bool) → Checked ⊤
 proof_verdict root bytes test = if length root == 32 then proof_test_passed (proof_of bytes) test else Err BadMessage
+
+-- whether the bytes prove that the key has the value (ICS 23, "VerifyMembership")
+abbrev pub judged_present : Text → Text → Text → Text → Checked ⊤
+judged_present root key value bytes = proof_verdict root bytes (λ p. accepts_present p root key value)
+
+-- whether the bytes prove that the key isn't there (ICS 23, "VerifyNonMembership")
+abbrev pub judged_absent : Text → Text → Text → Checked ⊤
+judged_absent root key bytes = proof_verdict root bytes (λ p. accepts_absent p root key)
 
 -- what the proof shows
 abbrev pub shown_kind : Proof → ProofKind

@@ -1,4 +1,5 @@
 pub mod CarriedProofs
+pub mod SpelledMessages
 pub mod JudgedProofs
 pub mod CallAnswers
 pub mod Events

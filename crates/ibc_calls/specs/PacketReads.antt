@@ -89,6 +89,10 @@ FindsPart part bytes found =
 abbrev pub AreEnd : Text → Text → Type 0
 AreEnd port channel = IsTrue (is_port port) × IsTrue (is_channel channel)
 
+-- these names, which are of their kinds
+abbrev pub AreEndNames : Text → Text → Text × Text → Type 0
+AreEndNames port channel names = (names.0 ≡ port) × (names.1 ≡ channel) × AreEnd port channel
+
 -- At the end this is so; or a name is none of its kind, or memory ran out.
 abbrev pub AtEnd : Text → Text → (Result Text Refused → Type 0) → Result Text Refused → Type 0
 AtEnd port channel is found =

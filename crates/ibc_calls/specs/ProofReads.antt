@@ -44,6 +44,10 @@ pub record ProofOutput : Type 0 where
   pub bytes : Text
   pub size : ℕ
 
+-- a proof's height, its bytes, and how many they are
+abbrev pub proof_output : ℕ → Text → ℕ → ProofOutput
+proof_output height bytes size = record { height = height; bytes = bytes; size = size }
+
 abbrev pub WritesProof : Option Carried → ProofOutput → ProofOutput → Answer → Type 0
 WritesProof None old new answer = (new ≡ old) × (answer ≡ Err NothingThere)
 WritesProof (Some c) old new answer = (new.height ≡ c.height) × IsWritten c.proof old.bytes new.bytes new.size answer

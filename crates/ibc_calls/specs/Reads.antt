@@ -71,6 +71,10 @@ TellsBalance user denom (Some other) old new answer = (new ≡ old) × (answer �
 abbrev pub AreEscrow : Text → Text → Type 0
 AreEscrow channel denom = IsTrue (is_channel channel) × IsTrue (is_denom denom)
 
+-- these names, which are of their kinds
+abbrev pub AreEscrowNames : Text → Text → Text × Text → Type 0
+AreEscrowNames channel denom names = (names.0 ≡ channel) × (names.1 ≡ denom) × AreEscrow channel denom
+
 -- What the escrow account of a channel holds in the working block; or a name is none of its kind, or memory ran out.
 abbrev pub IsEscrow : Text → Text → Ledger → Amount → Amount → Answer → Type 0
 IsEscrow channel denom ledger old new answer =

@@ -53,6 +53,10 @@ pub record TokenOutput : Type 0 where
   pub bytes : Text
   pub size : ℕ
 
+-- a token's amount, the bytes of its denomination, and how many they are
+abbrev pub token_output : Amount → Text → ℕ → TokenOutput
+token_output amount bytes size = record { amount = amount; bytes = bytes; size = size }
+
 abbrev pub WritesToken : Option Token → TokenOutput → TokenOutput → Answer → Type 0
 WritesToken None old new answer = (new ≡ old) × (answer ≡ Err NothingThere)
 WritesToken (Some token) old new answer =

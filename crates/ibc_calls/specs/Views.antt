@@ -1,8 +1,9 @@
 -- What views tell, and what is planned from two of them (ICS 18, "Relayer algorithm").
-use Rattle.std.specs.Prelude.{◌≡◌, ◌⊎◌, ◌<◌, Option, Some, None, Result, Ok, Err, IsTrue, ℕ}
+use Rattle.std.specs.Prelude.{◌≡◌, ◌⊎◌, ◌<◌, Option, Some, None, Result, Ok, Err, IsTrue}
 use Rattle.ibc_ids.specs.Texts.{Text}
 use Rattle.ibc_ids.specs.Paths.{path, is_key}
 use Rattle.ibc_ids.specs.declared.key.Key.{Key}
+use Rattle.ibc_ids.specs.declared.refusal.Refusal.{Refusal}
 use Rattle.ibc_ids.specs.declared.refusal.Refusal.TheVariants.{NoMemory, BadName}
 use Rattle.ibc_merkle.specs.Written.{written_proof}
 use Rattle.ibc_wire.specs.Spelling.{proof_bytes}
@@ -65,6 +66,10 @@ IsViewRoot view found = (found ≡ Ok (core_root view.core)) ⊎ (found ≡ Err 
 -- the key has this path (ICS 24, "Path-space")
 abbrev pub HasPath : Text → Key → Type 0
 HasPath bytes key = IsTrue (is_key key) × (path key ≡ bytes)
+
+-- no key has this path, or memory ran out
+abbrev pub IsPathRefused : Text → Refusal → Type 0
+IsPathRefused bytes refusal = ((refusal ≡ BadName) × ((key : Key) → ¬ HasPath bytes key)) ⊎ (refusal ≡ NoMemory)
 
 -- The bytes are the path of a key, and this is found at the key; or they are the path of none, or memory ran out.
 abbrev pub AtPath : Text → (Key → Result Text Refused → Type 0) → Result Text Refused → Type 0

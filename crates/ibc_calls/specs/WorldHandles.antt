@@ -1,6 +1,7 @@
 -- How the ledgers of a world are made, and handed out.
 use Rattle.std.specs.Prelude.{◌≡◌, ◌⊎◌, ℕ, Bool, true, false, [], ◌∷◌, Option, Some, None, Ok, Err}
 use Rattle.ibc_ids.specs.declared.refusal.Refusal.TheVariants.{NoMemory, BadMessage}
+use Rattle.ibc_machine.specs.declared.genesis.Genesis.{Genesis}
 use Rattle.ibc_machine.specs.chain.Genesis.{GenesisState, genesis_state, is_allowed}
 use Rattle.ibc_refinement.specs.World.{AreNew}
 use Rattle.ibc_world_core.specs.WorldModel.{ledgers_alone}
@@ -20,6 +21,10 @@ AreAllNew genesis number _ = ⊥
 abbrev pub MakesIfAllowed : Bool → GenesisState → ℕ → Option HandleValue → Answer → Type 0
 MakesIfAllowed true genesis number new answer = IsMade (AreAllNew genesis number) new answer
 MakesIfAllowed false genesis number new answer = StaysEmpty (Core BadMessage) new answer
+
+-- what is made of this genesis
+abbrev pub AreMadeOfGenesis : ℕ → Genesis → Option HandleValue → Answer → Type 0
+AreMadeOfGenesis number genesis new answer = MakesIfAllowed (is_allowed (genesis_state genesis)) (genesis_state genesis) number new answer
 
 abbrev pub AreMadeOf : ℕ → Option HandleValue → Option HandleValue → Answer → Type 0
 AreMadeOf number None new answer = StaysEmpty Empty new answer

@@ -1,7 +1,7 @@
 //! What a channel of tokens has, by the ledgers of its two ends.
 
 ghost use Rattle.std.specs.Prelude.{◌≡◌, Some};
-ghost use Rattle.ibc_calls.specs.ChannelReads.{TellsOfMembers, TellsOfPeer, TellsTotals, TellsSums, sums_of};
+ghost use Rattle.ibc_calls.specs.ChannelReads.{TellsOfMembers, TellsOfPeer, TellsTotals, sums_of, TellsSumsOf};
 
 use crate::reads::{escrow_names, parts_of};
 use crate::{Amount, Refused};
@@ -130,7 +130,7 @@ fn tell_sums(
     denom: &[u8],
     told: &mut ChannelTotals,
 ) -> Result<(), Refused>
-    ensures { TellsSums channel.now denom.now ledger.now.ledger peer.now.ledger told.old told.new result }
+    ensures { TellsSumsOf channel.now denom.now ledger.now peer.now told.old told.new result }
 {
     let (channel, denom) = escrow_names(alloc, channel, denom)?;
     match totals_of_ledgers(alloc, ledger, peer, &channel, &denom) {

@@ -2,7 +2,8 @@
 
 ghost use Rattle.std.specs.Prelude.{◌≡◌, Some};
 ghost use Rattle.ibc_calls.specs.CallAnswers.{answer_to};
-ghost use Rattle.ibc_calls.specs.Events.{AppliesMessage, EndsBlock, IsApplied, IsBlockEnded, IsReplyTold, LedgerReplies};
+ghost use Rattle.ibc_calls.specs.Events.{AppliesMessage, EndsBlock, IsApplied, IsBlockEnded, LedgerReplies, IsReplyGiven};
+ghost use Rattle.ibc_calls.specs.History.{reply_output};
 
 use crate::Refused;
 use crate::answer::answer_to;
@@ -27,7 +28,7 @@ pub fn apply(
     bytes: &mut [u8],
     size: &mut usize,
 ) -> Result<(), Refused>
-    ensures { AppliesMessage message.now ledger.old.value ledger.new.value (record { told = told.old; bytes = bytes.old; size = size.old }) (record { told = told.new; bytes = bytes.new; size = size.new }) result }
+    ensures { AppliesMessage message.now ledger.old.value ledger.new.value (reply_output told.old bytes.old size.old) (reply_output told.new bytes.new size.new) result }
 {
     match ledger.take(alloc) {
         None => Err(Refused::Empty),
@@ -48,7 +49,7 @@ fn apply_to(
     bytes: &mut [u8],
     size: &mut usize,
 ) -> Result<(), Refused>
-    ensures { LedgerReplies (IsApplied message.now) (Some held.old) (Some held.new) (record { told = told.old; bytes = bytes.old; size = size.old }) (record { told = told.new; bytes = bytes.new; size = size.new }) result }
+    ensures { LedgerReplies (IsApplied message.now) (Some held.old) (Some held.new) (reply_output told.old bytes.old size.old) (reply_output told.new bytes.new size.new) result }
 {
     match held {
         HandleValue::Ledger(member) => {
@@ -67,7 +68,7 @@ fn apply_at(
     bytes: &mut [u8],
     size: &mut usize,
 ) -> Result<(), Refused>
-    ensures { IsApplied message.now ledger.old ledger.new (record { told = told.old; bytes = bytes.old; size = size.old }) (record { told = told.new; bytes = bytes.new; size = size.new }) result }
+    ensures { IsApplied message.now ledger.old ledger.new (reply_output told.old bytes.old size.old) (reply_output told.new bytes.new size.new) result }
 {
     match message_of(alloc, message) {
         Ok(message) => tell_reply(ledger.apply(message), told, bytes, size),
@@ -83,7 +84,7 @@ fn tell_reply(
     size: &mut usize,
 ) -> Result<(), Refused>
     ensures answer { result ≡ answer_to reply }
-    ensures told { IsReplyTold reply (record { told = told.old; bytes = bytes.old; size = size.old }) (record { told = told.new; bytes = bytes.new; size = size.new }) }
+    ensures told { IsReplyGiven reply told.old told.new bytes.old bytes.new size.old size.new }
 {
     put_reply(&reply, told, bytes, size);
     answer_to(reply)
@@ -101,7 +102,7 @@ pub fn end_block(
     bytes: &mut [u8],
     size: &mut usize,
 ) -> Result<(), Refused>
-    ensures { EndsBlock next_time ledger.old.value ledger.new.value (record { told = told.old; bytes = bytes.old; size = size.old }) (record { told = told.new; bytes = bytes.new; size = size.new }) result }
+    ensures { EndsBlock next_time ledger.old.value ledger.new.value (reply_output told.old bytes.old size.old) (reply_output told.new bytes.new size.new) result }
 {
     match ledger.take(alloc) {
         None => Err(Refused::Empty),
@@ -121,7 +122,7 @@ fn end_of(
     bytes: &mut [u8],
     size: &mut usize,
 ) -> Result<(), Refused>
-    ensures { LedgerReplies (IsBlockEnded next_time) (Some held.old) (Some held.new) (record { told = told.old; bytes = bytes.old; size = size.old }) (record { told = told.new; bytes = bytes.new; size = size.new }) result }
+    ensures { LedgerReplies (IsBlockEnded next_time) (Some held.old) (Some held.new) (reply_output told.old bytes.old size.old) (reply_output told.new bytes.new size.new) result }
 {
     match held {
         HandleValue::Ledger(member) => end_at(&mut member.ledger, next_time, told, bytes, size),
@@ -137,7 +138,7 @@ fn end_at(
     bytes: &mut [u8],
     size: &mut usize,
 ) -> Result<(), Refused>
-    ensures { IsBlockEnded next_time ledger.old ledger.new (record { told = told.old; bytes = bytes.old; size = size.old }) (record { told = told.new; bytes = bytes.new; size = size.new }) result }
+    ensures { IsBlockEnded next_time ledger.old ledger.new (reply_output told.old bytes.old size.old) (reply_output told.new bytes.new size.new) result }
 {
     tell_reply(ledger.end_block(next_time), told, bytes, size)
 }

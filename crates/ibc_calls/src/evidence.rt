@@ -1,5 +1,5 @@
 //! What proofs and messages carry, with no ledger.
-ghost use Rattle.ibc_calls.specs.ProofReads.{FindsKey, FindsShown, TellsProof};
+ghost use Rattle.ibc_calls.specs.ProofReads.{FindsKey, FindsShown, TellsProof, proof_output};
 ghost use Rattle.ibc_calls.specs.Handles.{Finds};
 
 use crate::handles::{give, write_out};
@@ -68,7 +68,7 @@ pub fn message_proof(
     proof: &mut [u8],
     size: &mut usize,
 ) -> Result<(), Refused>
-    ensures { TellsProof index message.now (record { height = height.old; bytes = proof.old; size = size.old }) (record { height = height.new; bytes = proof.new; size = size.new }) result }
+    ensures { TellsProof index message.now (proof_output height.old proof.old size.old) (proof_output height.new proof.new size.new) result }
 {
     match carried_proof(alloc, message, index) {
         Ok(Some(found)) => {

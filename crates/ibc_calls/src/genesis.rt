@@ -1,10 +1,9 @@
 //! How a world begins, chain by chain.
 
-ghost use Rattle.std.specs.Prelude.{◌≡◌, ◌⊎◌, ◌+◌, ◌*◌, ◌^◌, ◌++◌, ◌∷◌, [], Some, IfOk, IfErr, OnOk, OnErr};
-ghost use Rattle.ibc_ids.specs.declared.refusal.Refusal.TheVariants.{BadName, NoMemory};
+ghost use Rattle.std.specs.Prelude.{◌≡◌, Some, IfOk, IfErr, OnOk, OnErr};
 ghost use Rattle.ibc_machine.specs.chain.Genesis.{genesis_state};
-ghost use Rattle.ibc_calls.specs.declared.answer.Refused.TheVariants.{Core};
-ghost use Rattle.ibc_calls.specs.GenesisHandles.{AddsBalance, AddsChain, AreNames, BalanceAdded, BeginsGenesis, ChainAdded, GenesisGoesOn};
+ghost use Rattle.ibc_calls.specs.GenesisHandles.{AddsBalance, AddsChain, AreNames, BeginsGenesis, ChainAdded, GenesisGoesOn, AreUserAndDenom, IsBalanceAdded, AddsBalanceTo, AddsHolding};
+ghost use Rattle.ibc_calls.specs.CallAnswers.{IsNameRefused};
 
 use crate::Refused;
 use crate::handles::put_new;
@@ -86,7 +85,7 @@ pub fn add_balance(
     high: u64,
     low: u64,
 ) -> Result<(), Refused>
-    ensures { BalanceAdded user.now denom.now (high * 2 ^ 64 + low) genesis.old.value genesis.new.value result }
+    ensures { IsBalanceAdded user.now denom.now high low genesis.old.value genesis.new.value result }
 {
     match genesis.take(alloc) {
         None => Err(Refused::Empty),
@@ -123,7 +122,7 @@ fn balance_added(
     denom: &[u8],
     amount: u128,
 ) -> Result<(), Refused>
-    ensures { AddsBalance user.now denom.now amount (genesis_state genesis.old) (genesis_state genesis.new) result }
+    ensures { AddsBalanceTo user.now denom.now amount genesis.old genesis.new result }
 {
     let (user, denom) = names_of(alloc, user, denom)?;
     let Some(last) = genesis.chains.pop() else {
@@ -145,8 +144,8 @@ pub(crate) fn names_of(
     user: &[u8],
     denom: &[u8],
 ) -> Result<(UserName, Denom), Refused>
-    ensures ok { IfOk result (λ names. (names.0 ≡ user.now) × (names.1 ≡ denom.now) × AreNames user.now denom.now) }
-    ensures err { IfErr result (λ refused. ((refused ≡ Core BadName) × ¬ AreNames user.now denom.now) ⊎ (refused ≡ Core NoMemory)) }
+    ensures ok { IfOk result (λ names. AreUserAndDenom user.now denom.now names) }
+    ensures err { IfErr result (λ refused. IsNameRefused (AreNames user.now denom.now) refused) }
 {
     let user = UserName::from_bytes(alloc, user)?;
     let denom = Denom::from_bytes(alloc, denom)?;
@@ -160,7 +159,7 @@ fn hold(
     denom: Denom,
     amount: u128,
 ) -> Result<(), AllocError>
-    ensures ok { OnOk result (start.new.balances.items ≡ start.old.balances.items ++ (user, denom, amount) ∷ []) }
+    ensures ok { OnOk result (AddsHolding user denom amount start.old start.new) }
     ensures err { OnErr result (start.new.balances.items ≡ start.old.balances.items) }
     ensures time { start.new.time ≡ start.old.time }
 {

@@ -2,8 +2,8 @@
 
 ghost use Rattle.std.specs.Prelude.{◌≡◌, Some};
 ghost use Rattle.ibc_calls.specs.Handles.{IsWritten};
-ghost use Rattle.ibc_calls.specs.Events.{IsReplyTold};
-ghost use Rattle.ibc_calls.specs.History.{IsEventText, WritesSpelledEvent, TellsEvent, TellsLength, TellsReply, event_code, published_in, reply_bytes, reply_code};
+ghost use Rattle.ibc_calls.specs.History.{IsEventText, TellsEvent, TellsLength, TellsReply, event_code, published_in, reply_bytes, reply_code, reply_output, event_output, IsEventGiven, IsReplyWritten};
+ghost use Rattle.ibc_calls.specs.Events.{IsReplyGiven};
 
 use crate::Refused;
 use crate::handles::write_out;
@@ -99,7 +99,7 @@ pub fn history_reply(
     size: &mut usize,
 ) -> Result<(), Refused>
     ensures kept { ledger.new.value ≡ ledger.old.value }
-    ensures told { TellsReply index ledger.old.value (record { told = told.old; bytes = bytes.old; size = size.old }) (record { told = told.new; bytes = bytes.new; size = size.new }) result }
+    ensures told { TellsReply index ledger.old.value (reply_output told.old bytes.old size.old) (reply_output told.new bytes.new size.new) result }
 {
     match ledger.take(alloc) {
         None => Err(Refused::Empty),
@@ -119,7 +119,7 @@ fn reply_at(
     bytes: &mut [u8],
     size: &mut usize,
 ) -> Result<(), Refused>
-    ensures { TellsReply index (Some held.now) (record { told = told.old; bytes = bytes.old; size = size.old }) (record { told = told.new; bytes = bytes.new; size = size.new }) result }
+    ensures { TellsReply index (Some held.now) (reply_output told.old bytes.old size.old) (reply_output told.new bytes.new size.new) result }
 {
     match held {
         HandleValue::Ledger(member) => match member.ledger.history().get(index as usize) {
@@ -137,7 +137,7 @@ fn tell(
     size: &mut usize,
 ) -> Result<(), Refused>
     ensures told { told.new ≡ reply_code stamped.now.entry.reply }
-    ensures bytes { IsWritten (reply_bytes stamped.now.entry.reply) bytes.old bytes.new size.new result }
+    ensures bytes { IsReplyWritten stamped.now.entry bytes.old bytes.new size.new result }
 {
     write_reply(&stamped.entry.reply, told, bytes, size)
 }
@@ -157,7 +157,7 @@ fn write_reply(
 
 /// Tells a reply, and writes the bytes that go with it where there is room. Their number is told.
 pub(crate) fn put_reply(reply: &Reply, told: &mut ReplyCode, bytes: &mut [u8], size: &mut usize)
-    ensures { IsReplyTold reply.now (record { told = told.old; bytes = bytes.old; size = size.old }) (record { told = told.new; bytes = bytes.new; size = size.new }) }
+    ensures { IsReplyGiven reply.now told.old told.new bytes.old bytes.new size.old size.new }
 {
     let _ = write_reply(reply, told, bytes, size);
 }
@@ -205,7 +205,7 @@ pub fn history_event(
     size: &mut usize,
 ) -> Result<(), Refused>
     ensures kept { ledger.new.value ≡ ledger.old.value }
-    ensures told { TellsEvent index ledger.old.value (record { asked = asked.old; bytes = bytes.old; size = size.old }) (record { asked = asked.new; bytes = bytes.new; size = size.new }) result }
+    ensures told { TellsEvent index ledger.old.value (event_output asked.old bytes.old size.old) (event_output asked.new bytes.new size.new) result }
 {
     match ledger.take(alloc) {
         None => Err(Refused::Empty),
@@ -226,7 +226,7 @@ fn event_at(
     bytes: &mut [u8],
     size: &mut usize,
 ) -> Result<(), Refused>
-    ensures { TellsEvent index (Some held.now) (record { asked = asked.old; bytes = bytes.old; size = size.old }) (record { asked = asked.new; bytes = bytes.new; size = size.new }) result }
+    ensures { TellsEvent index (Some held.now) (event_output asked.old bytes.old size.old) (event_output asked.new bytes.new size.new) result }
 {
     match held {
         HandleValue::Ledger(member) => match member.ledger.history().get(index as usize) {
@@ -244,7 +244,7 @@ fn tell_event(
     bytes: &mut [u8],
     size: &mut usize,
 ) -> Result<(), Refused>
-    ensures { WritesSpelledEvent entry.now (record { asked = asked.old; bytes = bytes.old; size = size.old }) (record { asked = asked.new; bytes = bytes.new; size = size.new }) result }
+    ensures { IsEventGiven entry.now asked.old asked.new bytes.old bytes.new size.old size.new result }
 {
     match asked_text(alloc, &entry.event) {
         Ok(text) => {

@@ -1,14 +1,13 @@
 //! Messages as their bytes.
 
-ghost use Rattle.std.specs.Prelude.{◌≡◌, ◌⊎◌, None, Some, Err, IfOk, IfErr, IsErrOf, MatchOption};
+ghost use Rattle.std.specs.Prelude.{◌≡◌, ◌⊎◌, None, Err, IfOk, IfErr, IsErrOf};
 ghost use Rattle.ibc_ids.specs.declared.refusal.Refusal.TheVariants.{NoMemory};
 ghost use Rattle.ibc_wire.specs.Fields.{Spells};
 ghost use Rattle.ibc_wire.specs.Messages.{message_fields};
-ghost use Rattle.ibc_wire.specs.declared.messages.Message.{Message as AMessage};
-ghost use Rattle.ibc_wire.specs.Kinds.{kind_of, tag_of};
 ghost use Rattle.ibc_message_codec.specs.MessageFront.{kind_at_front};
 ghost use Rattle.ibc_calls.specs.declared.answer.Refused.TheVariants.{Core, NoMessage};
 ghost use Rattle.ibc_calls.specs.CarriedProofs.{carried_proof, first_in, height_in, proof_in, second_in};
+ghost use Rattle.ibc_calls.specs.SpelledMessages.{SpellNoMessage, SpellsTag, SpellsProof, PointsTo};
 
 use crate::Refused;
 use ibc_ids::{Bytes, Refusal};
@@ -20,7 +19,7 @@ use std::alloc::Global;
 /// with the tag of no message; `Core(NoMemory)`.
 pub(crate) fn message_of(alloc: Global, bytes: &[u8]) -> Result<Message, Refused>
     ensures ok { IfOk result (λ message. Spells (message_fields message) bytes.now) }
-    ensures none { IsErrOf result NoMessage → (message : AMessage) → ¬ Spells (message_fields message) bytes.now }
+    ensures none { IsErrOf result NoMessage → SpellNoMessage bytes.now }
     ensures unknown { kind_at_front bytes.now ≡ None → result ≡ Err NoMessage }
     ensures err { IfErr result (λ why. (why ≡ NoMessage) ⊎ (why ≡ Core NoMemory)) }
 {
@@ -34,8 +33,8 @@ pub(crate) fn message_of(alloc: Global, bytes: &[u8]) -> Result<Message, Refused
 /// The tag, 1 to 19, of the message that the bytes spell. Refused: `NoMessage` only where they spell none, and always where they
 /// begin with the tag of no message; `Core(NoMemory)`.
 pub fn tag_of(alloc: Global, bytes: &[u8]) -> Result<u8, Refused>
-    ensures ok { IfOk result (λ tag. (message : AMessage) × Spells (message_fields message) bytes.now × (tag ≡ tag_of (kind_of message))) }
-    ensures none { IsErrOf result NoMessage → (message : AMessage) → ¬ Spells (message_fields message) bytes.now }
+    ensures ok { IfOk result (λ tag. SpellsTag bytes.now tag) }
+    ensures none { IsErrOf result NoMessage → SpellNoMessage bytes.now }
     ensures unknown { kind_at_front bytes.now ≡ None → result ≡ Err NoMessage }
     ensures err { IfErr result (λ why. (why ≡ NoMessage) ⊎ (why ≡ Core NoMemory)) }
 {
@@ -56,8 +55,8 @@ pub struct Carried {
 /// ConnOpenTry and ConnOpenAck carry that of the end and that of the client, TimeoutOnClose that of the packet and that of the
 /// closed channel; each other message that needs the other chain's word carries one. Refused: as by `tag_of`.
 pub fn carried_proof(alloc: Global, bytes: &[u8], index: u64) -> Result<Option<Carried>, Refused>
-    ensures ok { IfOk result (λ found. (message : AMessage) × Spells (message_fields message) bytes.now × (found ≡ carried_proof index message)) }
-    ensures none { IsErrOf result NoMessage → (message : AMessage) → ¬ Spells (message_fields message) bytes.now }
+    ensures ok { IfOk result (λ found. SpellsProof index bytes.now found) }
+    ensures none { IsErrOf result NoMessage → SpellNoMessage bytes.now }
     ensures unknown { kind_at_front bytes.now ≡ None → result ≡ Err NoMessage }
     ensures err { IfErr result (λ why. (why ≡ NoMessage) ⊎ (why ≡ Core NoMemory)) }
 {
@@ -86,7 +85,7 @@ fn copied(alloc: Global, message: &Message, index: u64) -> Result<Option<Carried
 
 // The proof at an index.
 fn proof_in(message: &Message, index: u64) -> Option<&[u8]>
-    ensures { MatchOption result (proof_in index message.now ≡ None) (λ proof. proof_in index message.now ≡ Some proof.now) }
+    ensures { PointsTo (proof_in index message.now) result }
 {
     if index == 0 {
         first_in(message)
@@ -119,7 +118,7 @@ fn height_in(message: &Message) -> u64
 
 // The one proof, or the first of two.
 fn first_in(message: &Message) -> Option<&[u8]>
-    ensures { MatchOption result (first_in message.now ≡ None) (λ proof. first_in message.now ≡ Some proof.now) }
+    ensures { PointsTo (first_in message.now) result }
 {
     let proof = match message {
         Message::ConnOpenTry(message) => &message.proof_end,
@@ -140,7 +139,7 @@ fn first_in(message: &Message) -> Option<&[u8]>
 
 // The proof of the client, or of the closed channel.
 fn second_in(message: &Message) -> Option<&[u8]>
-    ensures { MatchOption result (second_in message.now ≡ None) (λ proof. second_in message.now ≡ Some proof.now) }
+    ensures { PointsTo (second_in message.now) result }
 {
     let proof = match message {
         Message::ConnOpenTry(message) => &message.proof_client,

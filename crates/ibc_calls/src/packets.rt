@@ -1,13 +1,13 @@
 //! Packets by their own bytes, and those that messages carry.
 
-ghost use Rattle.std.specs.Prelude.{◌≡◌, ◌⊎◌, None, Some, IfOk, IfErr, IsErrOf, MatchOption};
+ghost use Rattle.std.specs.Prelude.{◌≡◌, ◌⊎◌, Some, IfOk, IfErr, IsErrOf};
 ghost use Rattle.ibc_ids.specs.declared.refusal.Refusal.TheVariants.{BadMessage, NoMemory};
 ghost use Rattle.ibc_wire.specs.Fields.{Spells};
 ghost use Rattle.ibc_wire.specs.Spelling.{packet_fields};
-ghost use Rattle.ibc_wire.specs.declared.packet.Packet.{Packet as APacket};
 ghost use Rattle.ibc_calls.specs.Handles.{Finds};
 ghost use Rattle.ibc_calls.specs.PacketReads.{FindsCarriedAck, FindsCarriedPacket, FindsPart, IsCopied, IsPacketText, TellsPacket, ack_in, numbers_of, packet_in, part_of};
 ghost use Rattle.ibc_calls.specs.declared.answer.Refused.TheVariants.{Core};
+ghost use Rattle.ibc_calls.specs.SpelledMessages.{SpellNoPacket, PointsTo};
 
 use crate::Refused;
 use crate::handles::give;
@@ -65,7 +65,7 @@ fn packet_text_in(alloc: Global, message: &Message) -> Result<Bytes, Refused>
 
 // The packet of a message that brings one.
 fn packet_in(message: &Message) -> Option<&Packet>
-    ensures { MatchOption result (packet_in message.now ≡ None) (λ packet. packet_in message.now ≡ Some packet.now) }
+    ensures { PointsTo (packet_in message.now) result }
 {
     match message {
         Message::RecvPacket(message) => Some(&message.packet),
@@ -166,7 +166,7 @@ fn numbers_of(packet: &Packet) -> PacketNumbers
 // The packet that the bytes spell.
 fn packet_of(alloc: Global, bytes: &[u8]) -> Result<Packet, Refused>
     ensures ok { IfOk result (λ packet. Spells (packet_fields packet) bytes.now) }
-    ensures none { IsErrOf result (Core BadMessage) → (packet : APacket) → ¬ Spells (packet_fields packet) bytes.now }
+    ensures none { IsErrOf result (Core BadMessage) → SpellNoPacket bytes.now }
     ensures err { IfErr result (λ why. (why ≡ Core BadMessage) ⊎ (why ≡ Core NoMemory)) }
 {
     match decode(alloc, bytes) {

@@ -2,9 +2,8 @@
 
 ghost use Rattle.std.specs.Prelude.{◌≡◌, ◌≢◌, ◌⊎◌, Err, IfOk, IfErr, length};
 ghost use Rattle.ibc_ids.specs.declared.refusal.Refusal.TheVariants.{BadMessage, NoMemory};
-ghost use Rattle.ibc_merkle.specs.Proofs.{accepts_absent, accepts_present};
 ghost use Rattle.ibc_wire.specs.Reading.{proof_of};
-ghost use Rattle.ibc_calls.specs.JudgedProofs.{proof_verdict, key_in, shown_key, kind_in, shown_kind, test_passed, value_in, shown_value};
+ghost use Rattle.ibc_calls.specs.JudgedProofs.{key_in, shown_key, kind_in, shown_kind, test_passed, value_in, shown_value, judged_present, judged_absent};
 
 use ibc_ics23_proof::{verify_absent, verify_present};
 use ibc_ids::{Bytes, Refusal, Root};
@@ -31,7 +30,7 @@ pub fn show_present(
     value: &[u8],
     proof: &[u8],
 ) -> Result<(), Refusal>
-    ensures { (result ≡ Err NoMemory) ⊎ (result ≡ proof_verdict root.now proof.now (λ p. accepts_present p root.now key.now value.now)) }
+    ensures { (result ≡ Err NoMemory) ⊎ (result ≡ judged_present root.now key.now value.now proof.now) }
 {
     let root = read_root(root)?;
     let proof = read_proof(alloc, proof)?;
@@ -43,7 +42,7 @@ pub fn show_present(
 /// The bytes spell a proof that shows that the key isn't there under the root (ICS 23, "VerifyNonMembership"). Refused as by
 /// `show_present`.
 pub fn show_absent(alloc: Global, root: &[u8], key: &[u8], proof: &[u8]) -> Result<(), Refusal>
-    ensures { (result ≡ Err NoMemory) ⊎ (result ≡ proof_verdict root.now proof.now (λ p. accepts_absent p root.now key.now)) }
+    ensures { (result ≡ Err NoMemory) ⊎ (result ≡ judged_absent root.now key.now proof.now) }
 {
     let root = read_root(root)?;
     let proof = read_proof(alloc, proof)?;

@@ -1,11 +1,10 @@
 //! What is read of ledgers and of plans.
 
-ghost use Rattle.std.specs.Prelude.{◌≡◌, ◌⊎◌, Some, IfOk, IfErr, IsTrue};
+ghost use Rattle.std.specs.Prelude.{◌≡◌, Some, IfOk, IfErr, IsTrue};
 ghost use Rattle.ibc_ids.specs.Names.{is_denom};
-ghost use Rattle.ibc_ids.specs.declared.refusal.Refusal.TheVariants.{BadName, NoMemory};
-ghost use Rattle.ibc_calls.specs.declared.answer.Refused.TheVariants.{Core};
 ghost use Rattle.ibc_calls.specs.Handles.{Finds};
-ghost use Rattle.ibc_calls.specs.Reads.{AreEscrow, FindsMessage, FindsValue, IsBalance, IsEscrow, IsSpelling, IsSupply, IsValueAt, TellsBalance, TellsEscrow, TellsSupply, amount_of};
+ghost use Rattle.ibc_calls.specs.Reads.{AreEscrow, FindsMessage, FindsValue, IsBalance, IsEscrow, IsSpelling, IsSupply, IsValueAt, TellsBalance, TellsEscrow, TellsSupply, amount_of, AreEscrowNames};
+ghost use Rattle.ibc_calls.specs.CallAnswers.{IsNameRefused};
 
 use crate::Refused;
 use crate::genesis::names_of;
@@ -246,8 +245,8 @@ pub(crate) fn escrow_names(
     channel: &[u8],
     denom: &[u8],
 ) -> Result<(ChannelId, Denom), Refused>
-    ensures ok { IfOk result (λ names. (names.0 ≡ channel.now) × (names.1 ≡ denom.now) × AreEscrow channel.now denom.now) }
-    ensures err { IfErr result (λ refused. ((refused ≡ Core BadName) × ¬ AreEscrow channel.now denom.now) ⊎ (refused ≡ Core NoMemory)) }
+    ensures ok { IfOk result (λ names. AreEscrowNames channel.now denom.now names) }
+    ensures err { IfErr result (λ refused. IsNameRefused (AreEscrow channel.now denom.now) refused) }
 {
     let channel = ChannelId::from_bytes(alloc, channel)?;
     let denom = Denom::from_bytes(alloc, denom)?;
@@ -308,7 +307,7 @@ fn supply_of(
 // The denomination of this name.
 fn denom_of(alloc: Global, denom: &[u8]) -> Result<Denom, Refused>
     ensures ok { IfOk result (λ name. (name ≡ denom.now) × IsTrue (is_denom denom.now)) }
-    ensures err { IfErr result (λ refused. ((refused ≡ Core BadName) × ¬ IsTrue (is_denom denom.now)) ⊎ (refused ≡ Core NoMemory)) }
+    ensures err { IfErr result (λ refused. IsNameRefused (IsTrue (is_denom denom.now)) refused) }
 {
     let denom = Denom::from_bytes(alloc, denom)?;
     Ok(denom)

@@ -1,10 +1,9 @@
 //! The packets that ledgers sent, and the acknowledgements that they wrote.
 
-ghost use Rattle.std.specs.Prelude.{◌≡◌, ◌⊎◌, Some, IfOk, IfErr};
-ghost use Rattle.ibc_ids.specs.declared.refusal.Refusal.TheVariants.{BadName, NoMemory};
+ghost use Rattle.std.specs.Prelude.{◌≡◌, Some, IfOk, IfErr};
 ghost use Rattle.ibc_calls.specs.Handles.{Finds};
-ghost use Rattle.ibc_calls.specs.PacketReads.{AreEnd, FindsAck, FindsSent, IsAckText, IsSentText};
-ghost use Rattle.ibc_calls.specs.declared.answer.Refused.TheVariants.{Core};
+ghost use Rattle.ibc_calls.specs.PacketReads.{AreEnd, FindsAck, FindsSent, IsAckText, IsSentText, AreEndNames};
+ghost use Rattle.ibc_calls.specs.CallAnswers.{IsNameRefused};
 
 use crate::Refused;
 use crate::handles::give;
@@ -97,8 +96,8 @@ fn sent_by(
 
 // The port and the channel of these names.
 fn end_of(alloc: Global, port: &[u8], channel: &[u8]) -> Result<(PortId, ChannelId), Refused>
-    ensures ok { IfOk result (λ names. (names.0 ≡ port.now) × (names.1 ≡ channel.now) × AreEnd port.now channel.now) }
-    ensures err { IfErr result (λ refused. ((refused ≡ Core BadName) × ¬ AreEnd port.now channel.now) ⊎ (refused ≡ Core NoMemory)) }
+    ensures ok { IfOk result (λ names. AreEndNames port.now channel.now names) }
+    ensures err { IfErr result (λ refused. IsNameRefused (AreEnd port.now channel.now) refused) }
 {
     let port = PortId::from_bytes(alloc, port)?;
     let channel = ChannelId::from_bytes(alloc, channel)?;

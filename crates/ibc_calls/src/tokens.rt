@@ -1,13 +1,14 @@
 //! The data of packets of tokens, taken apart.
 
-ghost use Rattle.std.specs.Prelude.{◌≡◌, ◌⊎◌, None, Some, IfOk, IfErr, IsErrOf, IsOkUnless, option_map, slice_get};
+ghost use Rattle.std.specs.Prelude.{◌≡◌, ◌⊎◌, None, Some, IfOk, IfErr, IsErrOf, IsOkUnless, slice_get};
 ghost use Rattle.ibc_ids.specs.declared.refusal.Refusal.TheVariants.{NoMemory};
 ghost use Rattle.ibc_machine.specs.ics20.TokenData.{several_tokens};
 ghost use Rattle.ibc_token_data.specs.AbstractData.{abstract_data};
 ghost use Rattle.ibc_calls.specs.Handles.{Finds};
 ghost use Rattle.ibc_calls.specs.PacketReads.{IsCopied};
-ghost use Rattle.ibc_calls.specs.TokenReads.{FindsDataPart, TellsDataToken, TellsDataCount, WritesToken, data_by, data_part, data_told};
+ghost use Rattle.ibc_calls.specs.TokenReads.{FindsDataPart, TellsDataToken, TellsDataCount, WritesToken, data_by, data_part, data_told, token_output};
 ghost use Rattle.ibc_calls.specs.declared.answer.Refused.TheVariants.{Core, NoData};
+ghost use Rattle.ibc_calls.specs.SpelledMessages.{versioned_data};
 
 use crate::Refused;
 use crate::handles::{give, write_out};
@@ -94,7 +95,7 @@ pub fn data_token(
     denom: &mut [u8],
     size: &mut usize,
 ) -> Result<(), Refused>
-    ensures { TellsDataToken index payload.now (record { amount = amount.old; bytes = denom.old; size = size.old }) (record { amount = amount.new; bytes = denom.new; size = size.new }) result }
+    ensures { TellsDataToken index payload.now (token_output amount.old denom.old size.old) (token_output amount.new denom.new size.new) result }
 {
     match data_told(alloc, payload) {
         Ok((version, told)) => {
@@ -114,7 +115,7 @@ fn token_in(
     denom: &mut [u8],
     size: &mut usize,
 ) -> Result<(), Refused>
-    ensures { WritesToken (slice_get (abstract_data told.now).tokens index) (record { amount = amount.old; bytes = denom.old; size = size.old }) (record { amount = amount.new; bytes = denom.new; size = size.new }) result }
+    ensures { WritesToken (slice_get (abstract_data told.now).tokens index) (token_output amount.old denom.old size.old) (token_output amount.new denom.new size.new) result }
 {
     match told.tokens.get(index as usize) {
         Some(token) => {
@@ -142,7 +143,7 @@ fn data_told(alloc: Global, bytes: &[u8]) -> Result<(Version, TokenData), Refuse
 
 // The data that the bytes spell over a channel of several tokens a packet. Refused as by `data_told`.
 fn several_told(alloc: Global, bytes: &[u8]) -> Result<(Version, TokenData), Refused>
-    ensures ok { IfOk result (λ told. data_by several_tokens bytes.now ≡ Some (told.0, abstract_data told.1)) }
+    ensures ok { IfOk result (λ t. data_by several_tokens bytes.now ≡ Some (t.0, abstract_data t.1)) }
     ensures none { IsErrOf result NoData → data_by several_tokens bytes.now ≡ None }
     ensures err { IfErr result (λ why. (why ≡ NoData) ⊎ (why ≡ Core NoMemory)) }
 {
@@ -160,7 +161,7 @@ fn data_by(
     version: Version,
     bytes: &[u8],
 ) -> Result<Option<(Version, TokenData)>, Refused>
-    ensures ok { IfOk result (λ found. data_by version bytes.now ≡ option_map (λ told. (told.0, abstract_data told.1)) found) }
+    ensures ok { IfOk result (λ found. data_by version bytes.now ≡ versioned_data found) }
     ensures err { IsOkUnless result (Core NoMemory) }
 {
     let read = TokenData::read(alloc, &version, bytes);

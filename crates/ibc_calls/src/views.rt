@@ -1,10 +1,8 @@
 //! Views of ledgers, what they prove, and what is planned from two of them.
 
-ghost use Rattle.std.specs.Prelude.{◌≡◌, ◌⊎◌, ◌<◌, None, Some, IfOk, IfErr};
-ghost use Rattle.ibc_ids.specs.declared.key.Key.{Key as AKey};
-ghost use Rattle.ibc_ids.specs.declared.refusal.Refusal.TheVariants.{BadName, NoMemory};
+ghost use Rattle.std.specs.Prelude.{◌≡◌, ◌<◌, None, Some, IfOk, IfErr};
 ghost use Rattle.ibc_calls.specs.Handles.{Finds, IsMade};
-ghost use Rattle.ibc_calls.specs.Views.{FindsProof, FindsRoot, HasPath, InView, IsPlanFrom, IsPlanOf, IsProofAt, IsShareOf, IsView, IsViewRoot, IsViewValue, MakesPlan, MakesView, SharesView, TellsHeights, heights_of};
+ghost use Rattle.ibc_calls.specs.Views.{FindsProof, FindsRoot, HasPath, InView, IsPlanFrom, IsPlanOf, IsProofAt, IsShareOf, IsView, IsViewRoot, IsViewValue, MakesPlan, MakesView, SharesView, TellsHeights, heights_of, IsPathRefused};
 
 use crate::Refused;
 use crate::handles::{give, put_new};
@@ -256,7 +254,7 @@ fn proof_of(alloc: Global, view: &View, path: &[u8]) -> Result<Bytes, Refused>
 /// The key that has this path. Refused: `BadName` exactly where none has it; `NoMemory`.
 pub(crate) fn key_of(alloc: Global, bytes: &[u8]) -> Result<Key, Refusal>
     ensures ok { IfOk result (HasPath bytes.now) }
-    ensures err { IfErr result (λ refusal. ((refusal ≡ BadName) × ((key : AKey) → ¬ HasPath bytes.now key)) ⊎ (refusal ≡ NoMemory)) }
+    ensures err { IfErr result (λ refusal. IsPathRefused bytes.now refusal) }
 {
     match str::from_utf8(bytes) {
         Ok(text) => Key::parse(alloc, text),

@@ -1,8 +1,7 @@
 //! The ledgers of a world.
 
 ghost use Rattle.std.specs.Prelude.{◌≡◌, None, Some};
-ghost use Rattle.ibc_machine.specs.chain.Genesis.{genesis_state, is_allowed};
-ghost use Rattle.ibc_calls.specs.WorldHandles.{AreMadeOf, MakesIfAllowed, TakesFirstLedger, MakesLedgers, TakesFrom, TakesLedger};
+ghost use Rattle.ibc_calls.specs.WorldHandles.{AreMadeOf, TakesFirstLedger, MakesLedgers, TakesFrom, TakesLedger, AreMadeOfGenesis};
 
 use crate::Refused;
 use crate::handles::put_new;
@@ -54,7 +53,7 @@ fn make_at(
 
 fn begin(alloc: Global, genesis: &Genesis, number: u64, ledgers: &mut Handle) -> Result<(), Refused>
     requires { ledgers.old.value ≡ None }
-    ensures { MakesIfAllowed (is_allowed (genesis_state genesis.now)) (genesis_state genesis.now) number ledgers.new.value result }
+    ensures { AreMadeOfGenesis number genesis.now ledgers.new.value result }
 {
     match WorldLedgers::begin(alloc, genesis, number) {
         Ok(all) => put_new(alloc, ledgers, HandleValue::Ledgers(all)),

@@ -1,2 +1,3 @@
 pub mod Publishing
 pub mod ChainReplays
+pub mod StoredLedgers

@@ -1,7 +1,8 @@
 //! What chains published, and what was read of it.
 
-ghost use Rattle.std.specs.Prelude.{◌≡◌, ◌↔◌, Some, false, true, IfSome, IsTrue};
-ghost use Rattle.ibc_chain_replay.specs.ChainReplays.{AreTooMany, IsAccepted, IsPublished, ReadsHeader, height_at, heights_in, heights_of};
+ghost use Rattle.std.specs.Prelude.{◌≡◌, ◌↔◌, Some, false, true, IsTrue};
+ghost use Rattle.ibc_chain_replay.specs.ChainReplays.{AreTooMany, IsAccepted, IsPublished, height_at, heights_in, heights_of};
+ghost use Rattle.ibc_chain_replay.specs.StoredLedgers.{AreReadAsPublished};
 
 use ibc_ids::Root;
 use ibc_machine::{Reading, Reply};
@@ -57,7 +58,7 @@ pub fn is_published_reading(
     reply: &Reply,
     reading: Option<Reading>,
 ) -> bool
-    ensures { IsTrue result → IfSome reading (λ r. IfSome header (λ h. ReadsHeader (heights_in published.now) reply.now h r)) }
+    ensures { IsTrue result → AreReadAsPublished published.now header reply.now reading }
 {
     let (Some(header), Some(reading)) = (header, reading) else {
         return true;

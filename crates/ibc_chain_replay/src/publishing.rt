@@ -1,6 +1,6 @@
 //! What other chains published is published again, for one ledger to read.
 
-ghost use Rattle.std.specs.Prelude.{◌≡◌, All, OnOk, IsOkUnless};
+ghost use Rattle.std.specs.Prelude.{◌≡◌, All, IsOkUnless};
 ghost use Rattle.ibc_ids.specs.declared.refusal.Refusal.TheVariants.{NoMemory};
 ghost use Rattle.ibc_chain_replay.specs.Publishing.{IsOwnPassOf};
 

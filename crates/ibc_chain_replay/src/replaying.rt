@@ -9,7 +9,8 @@ ghost use Rattle.ibc_ledger.specs.LedgerModel.{shape_of};
 ghost use Rattle.ibc_ledger.specs.HistoryGrowth.{AddsOrNot};
 ghost use Rattle.ibc_chain_replay.specs.declared.replaying.ChainDifference.TheVariants.{NoGenesis, At};
 ghost use Rattle.ibc_replay.specs.Replays.{entry_of};
-ghost use Rattle.ibc_chain_replay.specs.ChainReplays.{AddsRead, IsUnasked, IsChainReplay, HasHistory, StopsAtEntry, DiffersBy, heights_in};
+ghost use Rattle.ibc_chain_replay.specs.ChainReplays.{IsUnasked};
+ghost use Rattle.ibc_chain_replay.specs.StoredLedgers.{IsReplayOf, DiffersAs, HasHistoryAs, LedgerDiffersBy, AddsStored, StopsAs};
 
 use crate::answers::{chain_of, header_in, is_answered, is_same, last_in};
 use crate::published::{heights_of, is_enough, is_published_reading};
@@ -64,8 +65,8 @@ pub fn replay_chain(
     entries: Vec<Entry>,
 ) -> Result<Ledger, ChainDifference>
     requires { chain < length genesis.now.chains.items }
-    ensures replayed { IfOk result (λ ledger. IsChainReplay (genesis_state genesis.now) chain (heights_in published.now) entries.items ledger.ledger) }
-    ensures different { IfErr result (λ why. why ≢ NoGenesis → DiffersBy (genesis_state genesis.now) chain (heights_in published.now) entries.items why) }
+    ensures replayed { IfOk result (λ l. IsReplayOf genesis.now chain published.now entries.items l) }
+    ensures different { IfErr result (λ e. DiffersAs genesis.now chain published.now entries.items e) }
     ensures genesis { (result ≡ Err NoGenesis) ↔ (is_allowed (genesis_state genesis.now) ≡ false) }
 {
     if !is_allowed(genesis) {
@@ -127,8 +128,8 @@ fn replay_from(
     entries: Vec<Entry>,
 ) -> Result<Ledger, ChainDifference>
     requires { ledger.ledger.history ≡ [] }
-    ensures replayed { IfOk result (λ after. HasHistory ledger.ledger.genesis ledger.ledger.chain (heights_in published.now) entries.items after.ledger) }
-    ensures different { IfErr result (DiffersBy ledger.ledger.genesis ledger.ledger.chain (heights_in published.now) entries.items) }
+    ensures replayed { IfOk result (λ after. HasHistoryAs ledger published.now entries.items after) }
+    ensures different { IfErr result (LedgerDiffersBy ledger published.now entries.items) }
 {
     let mut ledger = ledger;
     let mut publishers = publishers;
@@ -153,9 +154,9 @@ fn replay_entries(
     published: &[Vec<(Root, u64)>],
     entries: Vec<Entry>,
 ) -> Result<(), ChainDifference>
-    requires { HasHistory ledger.old.ledger.genesis ledger.old.ledger.chain (heights_in published.now) [] ledger.old.ledger }
-    ensures replayed { OnOk result (HasHistory ledger.old.ledger.genesis ledger.old.ledger.chain (heights_in published.now) entries.items ledger.new.ledger) }
-    ensures different { IfErr result (DiffersBy ledger.old.ledger.genesis ledger.old.ledger.chain (heights_in published.now) entries.items) }
+    requires { HasHistoryAs ledger.old published.now [] ledger.old }
+    ensures replayed { OnOk result (HasHistoryAs ledger.old published.now entries.items ledger.new) }
+    ensures different { IfErr result (LedgerDiffersBy ledger.old published.now entries.items) }
 {
     let mut place = 0;
     for stored in entries {
@@ -173,8 +174,8 @@ fn step_as_stored(
     place: usize,
     stored: Entry,
 ) -> Result<(), ChainDifference>
-    ensures replayed { OnOk result (AddsRead (heights_in published.now) ledger.old.ledger stored ledger.new.ledger) }
-    ensures different { IfErr result (λ why. StopsAtEntry (heights_in published.now) ledger.old.ledger place stored why ledger.new.ledger) }
+    ensures replayed { OnOk result (AddsStored published.now ledger.old stored ledger.new) }
+    ensures different { IfErr result (λ e. StopsAs published.now ledger.old place stored e ledger.new) }
 {
     let Entry {
         event,
@@ -223,7 +224,7 @@ fn publish_as_read(
 // which it never does, is told as want of memory.
 fn answer(ledger: &mut Ledger, published: &[Vec<(Root, u64)>], event: Event) -> Option<Answered>
     requires { chain_of event ≡ ledger.old.ledger.chain }
-    ensures { IfSome result (λ due. AddsRead (heights_in published.now) ledger.old.ledger (entry_of event due) ledger.new.ledger) }
+    ensures { IfSome result (λ d. AddsStored published.now ledger.old (entry_of event d) ledger.new) }
 {
     let header = header_in(&event);
     let reply = ask(ledger, event);

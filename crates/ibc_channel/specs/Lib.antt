@@ -1,2 +1,3 @@
 pub mod ChannelHandshake
 pub mod FollowedPeers
+pub mod ChannelHandlers

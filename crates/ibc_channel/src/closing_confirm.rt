@@ -1,9 +1,6 @@
 //! Closing a channel that the peer closed.
 
-ghost use Rattle.std.specs.Prelude.{ℕ};
-ghost use Rattle.ibc_machine.specs.declared.reply.Effect.TheVariants as effect;
-ghost use Rattle.ibc_machine.specs.ics04.Channels.{chan_close_confirm};
-ghost use Rattle.ibc_records.specs.HandlerContract.{IsHandled};
+ghost use Rattle.ibc_channel.specs.ChannelHandlers.{HandlesChanCloseConfirm};
 
 use crate::following::follow_peer;
 use ibc_ids::Refusal;
@@ -20,7 +17,7 @@ pub fn close_confirm(
     records: &mut Records,
     message: &ChanCloseConfirm,
 ) -> Result<(), Refusal>
-    ensures { (chain chains : ℕ) → IsHandled (λ _. effect.None) (chan_close_confirm message.now) chain chains records.old result records.new }
+    ensures { HandlesChanCloseConfirm message.now records.old result records.new }
 {
     follow_peer(
         alloc,

@@ -1,12 +1,8 @@
 //! Closing a channel from this side.
 
-ghost use Rattle.std.specs.Prelude.{ℕ, IsSome, IfOk};
-ghost use Rattle.ibc_machine.specs.declared.reply.Effect.TheVariants as effect;
-ghost use Rattle.ibc_machine.specs.ics04.Channels.{chan_close_init};
-ghost use Rattle.ibc_records.specs.RecordsModel.{core_of};
-ghost use Rattle.ibc_records.specs.HandlerContract.{IsHandled};
-ghost use Rattle.ibc_records.specs.ProofVerdicts.{IsJudged};
-ghost use Rattle.ibc_channel.specs.ChannelHandshake.{end_at, with_set_end};
+ghost use Rattle.std.specs.Prelude.{IfOk};
+ghost use Rattle.ibc_channel.specs.ChannelHandlers.{HandlesChanCloseInit, JudgesChanCloseInit};
+ghost use Rattle.ibc_channel.specs.ChannelHandshake.{HasEndAt};
 
 use crate::checks::check_state;
 use crate::ends::{find_end, move_end, set_end};
@@ -22,7 +18,7 @@ pub fn close_init<A: App>(
     app: &A,
     message: &ChanCloseInit,
 ) -> Result<(), Refusal>
-    ensures { (chain chains : ℕ) → IsHandled (λ _. effect.None) (chan_close_init A.closes message.now) chain chains records.old result records.new }
+    ensures { HandlesChanCloseInit A.closes message.now records.old result records.new }
 {
     let end = judge_close(records, app, message)?;
     set_end(records, &message.port, &message.channel, end)
@@ -34,8 +30,8 @@ fn judge_close<A: App>(
     app: &A,
     message: &ChanCloseInit,
 ) -> Result<ChannelEnd, Refusal>
-    ensures judged { (chain chains : ℕ) → IsJudged (chan_close_init A.closes message.now) chain chains records.now (with_set_end message.now.port message.now.channel (core_of records.now)) result }
-    ensures there { IfOk result (λ _. IsSome (end_at (core_of records.now) message.now.port message.now.channel)) }
+    ensures judged { JudgesChanCloseInit A.closes message.now records.now result }
+    ensures there { IfOk result (λ _. HasEndAt records.now message.now.port message.now.channel) }
 {
     let mine = find_end(records, &message.port, &message.channel)?;
     check_state(mine, ChannelState::Open)?;

@@ -1,13 +1,10 @@
 //! Ends of channels: the ones that are there, and the ones that are added or set.
 
-ghost use Rattle.std.specs.Prelude.{◌≡◌, ◌⊎◌, ◌-◌, ◌^◌, ◌<◌, Some, Err, IsSome, IfOk, IfErr, OnOk, OnErr, IsOkUnless};
-ghost use Rattle.ibc_ids.specs.Paths.{nth_channel};
-ghost use Rattle.ibc_ids.specs.declared.refusal.Refusal.TheVariants.{NoMemory, UnknownChannel};
-ghost use Rattle.ibc_machine.specs.ics04.Channels.{channel_end, with_new_channel};
-ghost use Rattle.ibc_machine.specs.chain.Checks.{expect};
+ghost use Rattle.std.specs.Prelude.{◌≡◌, ◌-◌, ◌^◌, ◌<◌, Some, IfOk, OnOk, OnErr, IsOkUnless};
+ghost use Rattle.ibc_ids.specs.declared.refusal.Refusal.TheVariants.{NoMemory};
 ghost use Rattle.ibc_records.specs.RecordsModel.{core_of, IsUnchanged};
-ghost use Rattle.ibc_records.specs.HandlerContract.{AreWrittenRecords};
-ghost use Rattle.ibc_channel.specs.ChannelHandshake.{end_at, end_in_state, with_end};
+ghost use Rattle.ibc_channel.specs.ChannelHandshake.{end_at, end_in_state, require_end, IsEndWith, AddsNextChannel, HasEndAt, SetsEnd};
+ghost use Rattle.ibc_records.specs.WhyRefused.{FailsBy};
 
 use ibc_ids::{ChannelId, ConnectionId, PortId, Refusal, Version, nth_channel};
 use ibc_records::Records;
@@ -21,7 +18,7 @@ pub fn find_end<'a>(
     channel: &ChannelId,
 ) -> Result<&'a ChannelEnd, Refusal>
     ensures ok { IfOk result (λ end. end_at (core_of records.now) port.now channel.now ≡ Some end.now) }
-    ensures err { IfErr result (λ refusal. (expect (end_at (core_of records.now) port.now channel.now) UnknownChannel ≡ Err refusal) ⊎ (refusal ≡ NoMemory)) }
+    ensures err { FailsBy (require_end (core_of records.now) port.now channel.now) result }
 {
     match records.channel(port, channel)? {
         Some(found) => Ok(found.end()),
@@ -38,7 +35,7 @@ pub fn new_end(
     connection: &ConnectionId,
     version: &Version,
 ) -> Result<ChannelEnd, Refusal>
-    ensures ok { IfOk result (λ end. end ≡ channel_end state order peer_port.now peer_channel connection.now version.now) }
+    ensures ok { IsEndWith state order peer_port.now peer_channel connection.now version.now result }
     ensures err { IsOkUnless result NoMemory }
 {
     Ok(ChannelEnd {
@@ -78,7 +75,7 @@ pub fn add_channel(
     end: ChannelEnd,
 ) -> Result<ChannelId, Refusal>
     requires { records.old.next_channel < 2 ^ 64 - 1 }
-    ensures ok { IfOk result (λ id. (id ≡ nth_channel records.old.next_channel) × AreWrittenRecords (with_new_channel port.now id end (core_of records.old)) records.old records.new) }
+    ensures ok { IfOk result (λ id. AddsNextChannel port.now end records.old id records.new) }
     ensures err { IsOkUnless result NoMemory }
     ensures unchanged { OnErr result (IsUnchanged records.old records.new) }
 {
@@ -94,8 +91,8 @@ pub fn set_end(
     channel: &ChannelId,
     end: ChannelEnd,
 ) -> Result<(), Refusal>
-    requires { IsSome (end_at (core_of records.old) port.now channel.now) }
-    ensures ok { OnOk result (AreWrittenRecords (with_end port.now channel.now end (core_of records.old)) records.old records.new) }
+    requires { HasEndAt records.old port.now channel.now }
+    ensures ok { OnOk result (SetsEnd port.now channel.now end records.old records.new) }
     ensures err { IsOkUnless result NoMemory }
     ensures unchanged { OnErr result (IsUnchanged records.old records.new) }
 {

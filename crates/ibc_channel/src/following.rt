@@ -1,16 +1,11 @@
 //! Following the peer: an end goes where a proof shows its peer.
 
-ghost use Rattle.std.specs.Prelude.{◌≡◌, ℕ, false, Some, IsSome, IfOk};
-ghost use Rattle.ibc_ids.specs.Texts.{Text};
-ghost use Rattle.ibc_wire.specs.Reading.{proof_of};
-ghost use Rattle.ibc_machine.specs.declared.reply.Effect.TheVariants as effect;
+ghost use Rattle.std.specs.Prelude.{◌≡◌, false, IfOk};
 ghost use Rattle.ibc_machine.specs.ics24.Values.{same_channel_state};
-ghost use Rattle.ibc_records.specs.RecordsModel.{core_of};
-ghost use Rattle.ibc_records.specs.HandlerContract.{IsHandled};
-ghost use Rattle.ibc_records.specs.ProofVerdicts.{IsJudged};
-ghost use Rattle.ibc_channel.specs.ChannelHandshake.{end_at, with_set_end};
 ghost use Rattle.ibc_channel.specs.FollowedPeers as plain;
 ghost use Rattle.ibc_channel.specs.FollowedPeers.{require_follows};
+ghost use Rattle.ibc_channel.specs.ChannelHandlers.{HandlesFollowing, JudgesFollowing};
+ghost use Rattle.ibc_channel.specs.ChannelHandshake.{HasEndAt};
 
 use crate::ends::{find_end, move_end, set_end};
 use ibc_ics23_proof::NodeMemory;
@@ -37,7 +32,7 @@ pub fn follow_peer(
     proof: &Bytes,
 ) -> Result<(), Refusal>
     requires { same_channel_state to ChannelState.Init ≡ false }
-    ensures { (chain chains : ℕ) → IsHandled (λ _. effect.None) (plain.follow_peer to port.now channel.now height proof.now) chain chains records.old result records.new }
+    ensures { HandlesFollowing to port.now channel.now height proof.now records.old result records.new }
 {
     let mut memory = records.take_memory();
     let answer = follow_peer_with(
@@ -66,7 +61,7 @@ fn follow_peer_with(
     proof: &Bytes,
 ) -> Result<(), Refusal>
     requires { same_channel_state to ChannelState.Init ≡ false }
-    ensures { (chain chains : ℕ) → IsHandled (λ _. effect.None) (plain.follow_peer to port.now channel.now height proof.now) chain chains records.old result records.new }
+    ensures { HandlesFollowing to port.now channel.now height proof.now records.old result records.new }
 {
     let read = read_proof(alloc, proof.as_slice())?;
     let judged = judge_following(alloc, records, memory, to, port, channel, height, &read);
@@ -86,8 +81,8 @@ fn judge_following(
     proof: &Proof,
 ) -> Result<ChannelEnd, Refusal>
     requires { same_channel_state to ChannelState.Init ≡ false }
-    ensures judged { (chain chains : ℕ) (bytes : Text) → proof_of bytes ≡ Some proof.now → IsJudged (plain.follow_peer to port.now channel.now height bytes) chain chains records.now (with_set_end port.now channel.now (core_of records.now)) result }
-    ensures there { IfOk result (λ _. IsSome (end_at (core_of records.now) port.now channel.now)) }
+    ensures judged { JudgesFollowing to port.now channel.now height proof.now records.now result }
+    ensures there { IfOk result (λ _. HasEndAt records.now port.now channel.now) }
 {
     let mine = find_end(records, port, channel)?;
     check_follows(mine, to)?;

@@ -1,15 +1,10 @@
 //! Opening a channel that the peer answered.
 
-ghost use Rattle.std.specs.Prelude.{◌≡◌, ℕ, true, Some, IsSome, IfOk};
+ghost use Rattle.std.specs.Prelude.{◌≡◌, Some, IfOk};
 ghost use Rattle.ibc_wire.specs.Reading.{proof_of};
-ghost use Rattle.ibc_machine.specs.declared.reply.Effect.TheVariants as effect;
-ghost use Rattle.ibc_machine.specs.ics04.Channels.{chan_open_ack};
-ghost use Rattle.ibc_machine.specs.chain.Records.{connection_at, is_known_height};
-ghost use Rattle.ibc_records.specs.RecordsModel.{core_of};
-ghost use Rattle.ibc_records.specs.HandlerContract.{IsHandled};
-ghost use Rattle.ibc_records.specs.ProofVerdicts.{IsJudged};
-ghost use Rattle.ibc_records.specs.Peers.{IsPeerShown};
-ghost use Rattle.ibc_channel.specs.ChannelHandshake.{expected_try_end, end_at, with_set_end};
+ghost use Rattle.ibc_records.specs.OwnEnds.{IsConnectionAt, KnowsHeight};
+ghost use Rattle.ibc_channel.specs.ChannelHandlers.{HandlesChanOpenAck, JudgesChanOpenAck};
+ghost use Rattle.ibc_channel.specs.ChannelHandshake.{HasEndAt, IsChannelTryShown};
 
 use crate::checks::{check_open, check_state};
 use crate::ends::{find_end, new_end, set_end};
@@ -25,7 +20,7 @@ use std::alloc::Global;
 /// open; `NoConsensus` where the connection's client doesn't know the height; `BadProof` where the proof doesn't show the
 /// peer's end. `NoMemory` where a growth is refused. A refusal leaves the records.
 pub fn open_ack(alloc: Global, records: &mut Records, message: &ChanOpenAck) -> Result<(), Refusal>
-    ensures { (chain chains : ℕ) → IsHandled (λ _. effect.None) (chan_open_ack message.now) chain chains records.old result records.new }
+    ensures { HandlesChanOpenAck message.now records.old result records.new }
 {
     let mut memory = records.take_memory();
     let answer = open_ack_with(alloc, records, &mut memory, message);
@@ -40,7 +35,7 @@ fn open_ack_with(
     memory: &mut NodeMemory,
     message: &ChanOpenAck,
 ) -> Result<(), Refusal>
-    ensures { (chain chains : ℕ) → IsHandled (λ _. effect.None) (chan_open_ack message.now) chain chains records.old result records.new }
+    ensures { HandlesChanOpenAck message.now records.old result records.new }
 {
     let proof = read_proof(alloc, message.proof.as_slice())?;
     let judged = judge_ack(alloc, records, memory, message, &proof);
@@ -57,8 +52,8 @@ fn judge_ack(
     proof: &Proof,
 ) -> Result<ChannelEnd, Refusal>
     requires { proof_of message.now.proof ≡ Some proof.now }
-    ensures judged { (chain chains : ℕ) → IsJudged (chan_open_ack message.now) chain chains records.now (with_set_end message.now.port message.now.channel (core_of records.now)) result }
-    ensures there { IfOk result (λ _. IsSome (end_at (core_of records.now) message.now.port message.now.channel)) }
+    ensures judged { JudgesChanOpenAck message.now records.now result }
+    ensures there { IfOk result (λ _. HasEndAt records.now message.now.port message.now.channel) }
 {
     let mine = find_end(records, &message.port, &message.channel)?;
     check_state(mine, ChannelState::Init)?;
@@ -85,9 +80,9 @@ fn check_answered(
     connection: &ConnectionEnd,
     proof: &Proof,
 ) -> Result<(), Refusal>
-    requires there { connection_at (core_of records.now) mine.now.connection ≡ Some connection.now }
-    requires known { is_known_height (core_of records.now) connection.now.client message.now.height ≡ true }
-    ensures { IsPeerShown records.now mine.now message.now.height message.now.peer_channel (expected_try_end (core_of records.now) message.now mine.now) proof.now result }
+    requires there { IsConnectionAt records.now mine.now.connection connection.now }
+    requires known { KnowsHeight records.now connection.now.client message.now.height }
+    ensures { IsChannelTryShown records.now mine.now message.now proof.now result }
 {
     let peer = message.peer_channel.as_str();
     let port = &message.port;

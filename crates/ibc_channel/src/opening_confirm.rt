@@ -1,9 +1,6 @@
 //! Opening a channel that the peer opened.
 
-ghost use Rattle.std.specs.Prelude.{ℕ};
-ghost use Rattle.ibc_machine.specs.declared.reply.Effect.TheVariants as effect;
-ghost use Rattle.ibc_machine.specs.ics04.Channels.{chan_open_confirm};
-ghost use Rattle.ibc_records.specs.HandlerContract.{IsHandled};
+ghost use Rattle.ibc_channel.specs.ChannelHandlers.{HandlesChanOpenConfirm};
 
 use crate::following::follow_peer;
 use ibc_ids::Refusal;
@@ -20,7 +17,7 @@ pub fn open_confirm(
     records: &mut Records,
     message: &ChanOpenConfirm,
 ) -> Result<(), Refusal>
-    ensures { (chain chains : ℕ) → IsHandled (λ _. effect.None) (chan_open_confirm message.now) chain chains records.old result records.new }
+    ensures { HandlesChanOpenConfirm message.now records.old result records.new }
 {
     follow_peer(
         alloc,

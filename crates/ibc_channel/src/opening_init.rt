@@ -1,15 +1,8 @@
 //! Beginning a channel.
 
-ghost use Rattle.std.specs.Prelude.{◌≡◌, ◌-◌, ◌^◌, ◌<◌, ℕ, is_some, IfOk};
+ghost use Rattle.std.specs.Prelude.{◌≡◌, ◌-◌, ◌^◌, ◌<◌, IfOk};
 ghost use Rattle.ibc_ids.specs.Paths.{nth_channel};
-ghost use Rattle.ibc_ids.specs.declared.refusal.Refusal.TheVariants.{UnknownPort};
-ghost use Rattle.ibc_machine.specs.declared.reply.Effect.TheVariants as effect;
-ghost use Rattle.ibc_machine.specs.ics04.Channels.{chan_open_init};
-ghost use Rattle.ibc_machine.specs.chain.Checks.{require};
-ghost use Rattle.ibc_records.specs.RecordsModel.{core_of};
-ghost use Rattle.ibc_records.specs.HandlerContract.{IsHandled};
-ghost use Rattle.ibc_records.specs.ProofVerdicts.{IsJudged};
-ghost use Rattle.ibc_channel.specs.ChannelHandshake.{new_end, init_end};
+ghost use Rattle.ibc_channel.specs.ChannelHandlers.{HandlesChanOpenInit, JudgesChanOpenInit};
 
 use crate::checks::{check_connection, check_number};
 use crate::ends::{add_channel, new_end};
@@ -28,7 +21,7 @@ pub fn open_init<A: App>(
     app: Option<&A>,
     message: &ChanOpenInit,
 ) -> Result<ChannelId, Refusal>
-    ensures answer { (chain chains : ℕ) → IsHandled effect.Channel (chan_open_init (require (is_some app.entry) UnknownPort) A.opens message.now) chain chains records.old result records.new }
+    ensures answer { HandlesChanOpenInit app.entry A.opens message.now records.old result records.new }
     ensures named { IfOk result (λ id. id ≡ nth_channel records.old.next_channel) }
 {
     check_init(records, app, message)?;
@@ -49,7 +42,7 @@ fn check_init<A: App>(
     app: Option<&A>,
     message: &ChanOpenInit,
 ) -> Result<(), Refusal>
-    ensures judged { (chain chains : ℕ) → IsJudged (chan_open_init (require (is_some app.entry) UnknownPort) A.opens message.now) chain chains records.now (λ _. new_end message.now.port (init_end message.now) (core_of records.now)) result }
+    ensures judged { JudgesChanOpenInit app.entry A.opens message.now records.now result }
     ensures free { IfOk result (λ _. records.now.next_channel < 2 ^ 64 - 1) }
 {
     let Some(app) = app else {

@@ -1,18 +1,11 @@
 //! Answering a channel that the peer began.
 
-ghost use Rattle.std.specs.Prelude.{◌≡◌, ◌-◌, ◌^◌, ◌<◌, ℕ, true, Some, is_some, IfOk};
+ghost use Rattle.std.specs.Prelude.{◌≡◌, ◌-◌, ◌^◌, ◌<◌, Some, IfOk};
 ghost use Rattle.ibc_ids.specs.Paths.{nth_channel};
-ghost use Rattle.ibc_ids.specs.declared.refusal.Refusal.TheVariants.{UnknownPort};
 ghost use Rattle.ibc_wire.specs.Reading.{proof_of};
-ghost use Rattle.ibc_machine.specs.declared.reply.Effect.TheVariants as effect;
-ghost use Rattle.ibc_machine.specs.ics04.Channels.{chan_open_try};
-ghost use Rattle.ibc_machine.specs.chain.Checks.{require};
-ghost use Rattle.ibc_machine.specs.chain.Records.{connection_at, is_known_height};
-ghost use Rattle.ibc_records.specs.RecordsModel.{core_of};
-ghost use Rattle.ibc_records.specs.HandlerContract.{IsHandled};
-ghost use Rattle.ibc_records.specs.ProofVerdicts.{IsJudged};
-ghost use Rattle.ibc_records.specs.Peers.{IsPeerShown};
-ghost use Rattle.ibc_channel.specs.ChannelHandshake.{new_end, expected_init_end};
+ghost use Rattle.ibc_channel.specs.ChannelHandshake.{IsChannelInitShown};
+ghost use Rattle.ibc_records.specs.OwnEnds.{IsConnectionAt, KnowsHeight};
+ghost use Rattle.ibc_channel.specs.ChannelHandlers.{HandlesChanOpenTry, JudgesChanOpenTry};
 
 use crate::checks::{check_connection, check_number, check_open};
 use crate::ends::{add_channel, new_end};
@@ -35,7 +28,7 @@ pub fn open_try<A: App>(
     app: Option<&A>,
     message: &ChanOpenTry,
 ) -> Result<ChannelId, Refusal>
-    ensures answer { (chain chains : ℕ) → IsHandled effect.Channel (chan_open_try (require (is_some app.entry) UnknownPort) A.opens message.now) chain chains records.old result records.new }
+    ensures answer { HandlesChanOpenTry app.entry A.opens message.now records.old result records.new }
     ensures named { IfOk result (λ id. id ≡ nth_channel records.old.next_channel) }
 {
     let mut memory = records.take_memory();
@@ -52,7 +45,7 @@ fn open_try_with<A: App>(
     app: Option<&A>,
     message: &ChanOpenTry,
 ) -> Result<ChannelId, Refusal>
-    ensures answer { (chain chains : ℕ) → IsHandled effect.Channel (chan_open_try (require (is_some app.entry) UnknownPort) A.opens message.now) chain chains records.old result records.new }
+    ensures answer { HandlesChanOpenTry app.entry A.opens message.now records.old result records.new }
     ensures named { IfOk result (λ id. id ≡ nth_channel records.old.next_channel) }
 {
     let proof = read_proof(alloc, message.proof.as_slice())?;
@@ -71,7 +64,7 @@ fn judge_try<A: App>(
     proof: &Proof,
 ) -> Result<ChannelEnd, Refusal>
     requires { proof_of message.now.proof ≡ Some proof.now }
-    ensures judged { (chain chains : ℕ) → IsJudged (chan_open_try (require (is_some app.entry) UnknownPort) A.opens message.now) chain chains records.now (λ end. new_end message.now.port end (core_of records.now)) result }
+    ensures judged { JudgesChanOpenTry app.entry A.opens message.now records.now result }
     ensures free { IfOk result (λ _. records.now.next_channel < 2 ^ 64 - 1) }
 {
     let Some(app) = app else {
@@ -106,9 +99,9 @@ fn check_begun(
     connection: &ConnectionEnd,
     proof: &Proof,
 ) -> Result<(), Refusal>
-    requires there { connection_at (core_of records.now) mine.now.connection ≡ Some connection.now }
-    requires known { is_known_height (core_of records.now) connection.now.client message.now.height ≡ true }
-    ensures { IsPeerShown records.now mine.now message.now.height message.now.peer_channel (expected_init_end (core_of records.now) message.now mine.now) proof.now result }
+    requires there { IsConnectionAt records.now mine.now.connection connection.now }
+    requires known { KnowsHeight records.now connection.now.client message.now.height }
+    ensures { IsChannelInitShown records.now mine.now message.now proof.now result }
 {
     let peer = message.peer_channel.as_str();
     let port = &message.port;

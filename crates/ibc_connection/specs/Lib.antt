@@ -1,1 +1,2 @@
 pub mod ConnectionHandshake
+pub mod ConnectionHandlers

@@ -1,15 +1,12 @@
 //! Checks that several of the messages make, and the connection that a new one adds.
 
-ghost use Rattle.std.specs.Prelude.{◌≡◌, ◌==◌, ◌&&◌, ◌+◌, ◌-◌, ◌^◌, ◌<◌, nat_lt, IfOk, OnErr, IsOkUnless};
-ghost use Rattle.ibc_ids.specs.Paths.{nth_connection};
+ghost use Rattle.std.specs.Prelude.{◌≡◌, ◌-◌, ◌^◌, ◌<◌, IfOk, OnErr, IsOkUnless};
 ghost use Rattle.ibc_ids.specs.declared.refusal.Refusal.TheVariants.{NoMemory, WrongState};
 ghost use Rattle.ibc_machine.specs.chain.Checks.{require};
-ghost use Rattle.ibc_machine.specs.ics03.Connections.{with_new_connection};
 ghost use Rattle.ibc_machine.specs.ics24.Evidence.{require_number};
 ghost use Rattle.ibc_machine.specs.ics24.Values.{same_connection_state};
-ghost use Rattle.ibc_path_store.specs.StoreModel.{height_of};
-ghost use Rattle.ibc_records.specs.RecordsModel.{core_of, IsUnchanged};
-ghost use Rattle.ibc_records.specs.HandlerContract.{AreWrittenRecords};
+ghost use Rattle.ibc_records.specs.RecordsModel.{IsUnchanged};
+ghost use Rattle.ibc_connection.specs.ConnectionHandshake.{is_self_client, AddsNextConnection};
 
 use ibc_ids::{ConnectionId, Refusal, nth_connection};
 use ibc_records::Records;
@@ -19,7 +16,7 @@ use std::alloc::Global;
 /// Whether a claimed client of the peer tracks this chain, and knows no height that isn't committed here (ICS 3,
 /// "validateSelfClient").
 pub fn names_host(records: &Records, chain: u8, claim: ClientState) -> bool
-    ensures { result ≡ ((claim.chain == chain) && nat_lt claim.latest (height_of records.now.store + 1)) }
+    ensures { result ≡ is_self_client records.now chain claim }
 {
     claim.chain == chain && claim.latest <= records.height()
 }
@@ -57,7 +54,7 @@ pub fn add_connection(
     end: ConnectionEnd,
 ) -> Result<ConnectionId, Refusal>
     requires { records.old.next_connection < 2 ^ 64 - 1 }
-    ensures ok { IfOk result (λ id. (id ≡ nth_connection records.old.next_connection) × AreWrittenRecords (with_new_connection id end (core_of records.old)) records.old records.new) }
+    ensures ok { IfOk result (λ id. AddsNextConnection end records.old id records.new) }
     ensures err { IsOkUnless result NoMemory }
     ensures unchanged { OnErr result (IsUnchanged records.old records.new) }
 {

@@ -1,12 +1,10 @@
 //! What messages claim of the peer, and the proofs that they bring.
 
-ghost use Rattle.std.specs.Prelude.{◌≡◌, ◌&&◌, ◌⊎◌, true, false, is_some, IfOk, IfErr, IsErrOf};
+ghost use Rattle.std.specs.Prelude.{◌≡◌, ◌⊎◌, false, IfOk, IfErr, IsErrOf};
 ghost use Rattle.ibc_machine.specs.ics03.Connections.{has_connection, has_client};
-ghost use Rattle.ibc_machine.specs.chain.Records.{is_known_height};
-ghost use Rattle.ibc_wire.specs.Reading.{proof_of};
-ghost use Rattle.ibc_records.specs.RecordsModel.{core_of};
 ghost use Rattle.ibc_records.specs.ProofVerdicts.{IsShown};
-ghost use Rattle.ibc_connection.specs.ConnectionHandshake.{AreProofs};
+ghost use Rattle.ibc_connection.specs.ConnectionHandshake.{AreProofs, are_readable};
+ghost use Rattle.ibc_records.specs.OwnEnds.{KnowsHeight};
 
 use ibc_ics23_proof::NodeMemory;
 use ibc_ids::{Bytes, ClientId, ConnectionId, Key, Refusal};
@@ -25,7 +23,7 @@ pub struct Proofs {
 /// The two proofs of a message. Refused: `BadMessage` exactly where one can't be read; `NoMemory`.
 pub fn read_proofs(alloc: Global, end: &Bytes, client: &Bytes) -> Result<Proofs, Refusal>
     ensures ok { IfOk result (λ proofs. AreProofs end.now client.now proofs) }
-    ensures bad { IsErrOf result Refusal.BadMessage → (is_some (proof_of end.now) && is_some (proof_of client.now)) ≡ false }
+    ensures bad { IsErrOf result Refusal.BadMessage → are_readable end.now client.now ≡ false }
     ensures err { IfErr result (λ e. (e ≡ Refusal.BadMessage) ⊎ (e ≡ Refusal.NoMemory)) }
 {
     Ok(Proofs {
@@ -45,7 +43,7 @@ pub fn check_connection(
     end: &ConnectionEnd,
     proof: &Proof,
 ) -> Result<(), Refusal>
-    requires { is_known_height (core_of records.now) client.now height ≡ true }
+    requires { KnowsHeight records.now client.now height }
     ensures { IsShown records.now client.now height (has_connection id.now end.now) proof.now result }
 {
     let value = connection_value(alloc, end)?;
@@ -74,7 +72,7 @@ pub fn check_client_state(
     state: ClientState,
     proof: &Proof,
 ) -> Result<(), Refusal>
-    requires { is_known_height (core_of records.now) client.now height ≡ true }
+    requires { KnowsHeight records.now client.now height }
     ensures { IsShown records.now client.now height (has_client id.now state) proof.now result }
 {
     let value = client_value(alloc, state)?;

@@ -1,14 +1,9 @@
 //! Opening a connection that the peer answered.
 
-ghost use Rattle.std.specs.Prelude.{◌≡◌, ℕ, Some, true, IfOk};
-ghost use Rattle.ibc_machine.specs.declared.reply.Effect.TheVariants as effect;
-ghost use Rattle.ibc_machine.specs.ics03.Connections.{conn_open_ack, has_connection, may_conn_ack};
-ghost use Rattle.ibc_machine.specs.chain.Records as plain;
-ghost use Rattle.ibc_machine.specs.chain.Records.{connection_at, with_connection};
-ghost use Rattle.ibc_records.specs.RecordsModel.{core_of};
-ghost use Rattle.ibc_records.specs.HandlerContract.{IsHandled, host_with};
-ghost use Rattle.ibc_records.specs.ProofVerdicts.{IsJudged, IsShown};
-ghost use Rattle.ibc_connection.specs.ConnectionHandshake.{AreProofs, after_ack, expected_try_end};
+ghost use Rattle.std.specs.Prelude.{IfOk};
+ghost use Rattle.ibc_connection.specs.ConnectionHandshake.{AreProofs, IsConnectionTryShown};
+ghost use Rattle.ibc_records.specs.OwnEnds.{IsConnectionAt, KnowsHeight};
+ghost use Rattle.ibc_connection.specs.ConnectionHandlers.{HandlesConnOpenAck, JudgesConnOpenAck, PassesConnOpenAck, IsAckAllowed};
 
 use crate::checks::{is_in_state, names_host};
 use crate::claims::{Proofs, check_client_state, check_connection, read_proofs};
@@ -30,7 +25,7 @@ pub fn open_ack(
     chain: u8,
     message: &ConnOpenAck,
 ) -> Result<(), Refusal>
-    ensures { (chains : ℕ) → IsHandled (λ _. effect.None) (conn_open_ack message.now) chain chains records.old result records.new }
+    ensures { HandlesConnOpenAck chain message.now records.old result records.new }
 {
     let mut memory = records.take_memory();
     let answer = open_ack_with(alloc, records, &mut memory, chain, message);
@@ -46,7 +41,7 @@ fn open_ack_with(
     chain: u8,
     message: &ConnOpenAck,
 ) -> Result<(), Refusal>
-    ensures { (chains : ℕ) → IsHandled (λ _. effect.None) (conn_open_ack message.now) chain chains records.old result records.new }
+    ensures { HandlesConnOpenAck chain message.now records.old result records.new }
 {
     let proofs = read_proofs(alloc, &message.proof_end, &message.proof_client)?;
     let judged = judge_ack(alloc, records, memory, chain, message, &proofs);
@@ -64,7 +59,7 @@ fn judge_ack(
     proofs: &Proofs,
 ) -> Result<ConnectionEnd, Refusal>
     requires { AreProofs message.now.proof_end message.now.proof_client proofs.now }
-    ensures { (chains : ℕ) → IsJudged (conn_open_ack message.now) chain chains records.now (λ end. (effect.None, with_connection message.now.connection end (core_of records.now))) result }
+    ensures { JudgesConnOpenAck chain message.now records.now result }
 {
     let Some(mine) = records.connection(&message.connection) else {
         return Err(Refusal::UnknownConnection);
@@ -89,8 +84,8 @@ fn check_ack(
     proofs: &Proofs,
 ) -> Result<(), Refusal>
     requires read { AreProofs message.now.proof_end message.now.proof_client proofs.now }
-    requires found { connection_at (core_of records.now) message.now.connection ≡ Some mine.now }
-    ensures { (chains : ℕ) → IsJudged (conn_open_ack message.now) chain chains records.now (λ _. (effect.None, with_connection message.now.connection (after_ack message.now mine.now) (core_of records.now))) result }
+    requires found { IsConnectionAt records.now message.now.connection mine.now }
+    ensures { PassesConnOpenAck chain message.now mine.now records.now result }
 {
     may_ack(records, chain, message, mine)?;
     check_answered(alloc, records, memory, message, mine, &proofs.end)?;
@@ -114,8 +109,8 @@ fn may_ack(
     message: &ConnOpenAck,
     mine: &ConnectionEnd,
 ) -> Result<(), Refusal>
-    ensures checked { (chains : ℕ) → result ≡ may_conn_ack (host_with chain chains records.now) (core_of records.now) message.now mine.now }
-    ensures known { IfOk result (λ _. plain.is_known_height (core_of records.now) mine.now.client message.now.height ≡ true) }
+    ensures checked { IsAckAllowed chain message.now mine.now records.now result }
+    ensures known { IfOk result (λ _. KnowsHeight records.now mine.now.client message.now.height) }
 {
     if !is_in_state(mine, ConnectionState::Init) {
         return Err(Refusal::WrongState);
@@ -138,8 +133,8 @@ fn check_answered(
     mine: &ConnectionEnd,
     proof: &Proof,
 ) -> Result<(), Refusal>
-    requires { plain.is_known_height (core_of records.now) mine.now.client message.now.height ≡ true }
-    ensures { IsShown records.now mine.now.client message.now.height (has_connection message.now.peer_connection (expected_try_end message.now mine.now)) proof.now result }
+    requires { KnowsHeight records.now mine.now.client message.now.height }
+    ensures { IsConnectionTryShown records.now mine.now message.now proof.now result }
 {
     let theirs = ConnectionEnd {
         state: ConnectionState::TryOpen,

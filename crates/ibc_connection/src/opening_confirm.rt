@@ -1,14 +1,10 @@
 //! Opening a connection that the peer opened.
 
-ghost use Rattle.std.specs.Prelude.{◌≡◌, ℕ, Some, true};
-ghost use Rattle.ibc_machine.specs.declared.reply.Effect.TheVariants as effect;
-ghost use Rattle.ibc_machine.specs.ics03.Connections.{conn_open_confirm, has_connection};
-ghost use Rattle.ibc_machine.specs.chain.Records.{is_known_height, with_connection};
-ghost use Rattle.ibc_records.specs.RecordsModel.{core_of};
-ghost use Rattle.ibc_records.specs.HandlerContract.{IsHandled};
-ghost use Rattle.ibc_records.specs.ProofVerdicts.{IsJudged, IsShown};
+ghost use Rattle.std.specs.Prelude.{◌≡◌, Some};
 ghost use Rattle.ibc_wire.specs.Reading.{proof_of};
-ghost use Rattle.ibc_connection.specs.ConnectionHandshake.{expected_open_end};
+ghost use Rattle.ibc_records.specs.OwnEnds.{KnowsHeight};
+ghost use Rattle.ibc_connection.specs.ConnectionHandlers.{HandlesConnOpenConfirm, JudgesConnOpenConfirm};
+ghost use Rattle.ibc_connection.specs.ConnectionHandshake.{IsConnectionOpenShown};
 
 use crate::checks::check_state;
 use crate::claims::check_connection;
@@ -28,7 +24,7 @@ pub fn open_confirm(
     records: &mut Records,
     message: &ConnOpenConfirm,
 ) -> Result<(), Refusal>
-    ensures { (chain chains : ℕ) → IsHandled (λ _. effect.None) (conn_open_confirm message.now) chain chains records.old result records.new }
+    ensures { HandlesConnOpenConfirm message.now records.old result records.new }
 {
     let mut memory = records.take_memory();
     let answer = open_confirm_with(alloc, records, &mut memory, message);
@@ -43,7 +39,7 @@ fn open_confirm_with(
     memory: &mut NodeMemory,
     message: &ConnOpenConfirm,
 ) -> Result<(), Refusal>
-    ensures { (chain chains : ℕ) → IsHandled (λ _. effect.None) (conn_open_confirm message.now) chain chains records.old result records.new }
+    ensures { HandlesConnOpenConfirm message.now records.old result records.new }
 {
     let proof = read_proof(alloc, message.proof.as_slice())?;
     let judged = judge_confirm(alloc, records, memory, message, &proof);
@@ -60,7 +56,7 @@ fn judge_confirm(
     proof: &Proof,
 ) -> Result<ConnectionEnd, Refusal>
     requires { proof_of message.now.proof ≡ Some proof.now }
-    ensures { (chain chains : ℕ) → IsJudged (conn_open_confirm message.now) chain chains records.now (λ end. (effect.None, with_connection message.now.connection end (core_of records.now))) result }
+    ensures { JudgesConnOpenConfirm message.now records.now result }
 {
     let Some(mine) = records.connection(&message.connection) else {
         return Err(Refusal::UnknownConnection);
@@ -89,8 +85,8 @@ fn check_opened(
     peer: &ConnectionId,
     proof: &Proof,
 ) -> Result<(), Refusal>
-    requires { is_known_height (core_of records.now) mine.now.client message.now.height ≡ true }
-    ensures { IsShown records.now mine.now.client message.now.height (has_connection peer.now (expected_open_end message.now mine.now)) proof.now result }
+    requires { KnowsHeight records.now mine.now.client message.now.height }
+    ensures { IsConnectionOpenShown records.now mine.now peer.now message.now proof.now result }
 {
     let theirs = ConnectionEnd {
         state: ConnectionState::Open,

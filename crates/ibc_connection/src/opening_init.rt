@@ -1,10 +1,8 @@
 //! Beginning a connection.
 
-ghost use Rattle.std.specs.Prelude.{◌≡◌, ℕ, IfOk};
+ghost use Rattle.std.specs.Prelude.{◌≡◌, IfOk};
 ghost use Rattle.ibc_ids.specs.Paths.{nth_connection};
-ghost use Rattle.ibc_machine.specs.declared.reply.Effect.TheVariants as effect;
-ghost use Rattle.ibc_machine.specs.ics03.Connections.{conn_open_init};
-ghost use Rattle.ibc_records.specs.HandlerContract.{IsHandled};
+ghost use Rattle.ibc_connection.specs.ConnectionHandlers.{HandlesConnOpenInit};
 
 use crate::checks::{add_connection, check_number};
 use ibc_ids::{ConnectionId, Refusal};
@@ -19,7 +17,7 @@ pub fn open_init(
     records: &mut Records,
     message: &ConnOpenInit,
 ) -> Result<ConnectionId, Refusal>
-    ensures answer { (chain chains : ℕ) → IsHandled effect.Connection (conn_open_init message.now) chain chains records.old result records.new }
+    ensures answer { HandlesConnOpenInit message.now records.old result records.new }
     ensures named { IfOk result (λ id. id ≡ nth_connection records.old.next_connection) }
 {
     check_client(records, &message.client)?;

@@ -1,14 +1,10 @@
 //! Answering a connection that the peer began.
 
-ghost use Rattle.std.specs.Prelude.{◌≡◌, ◌-◌, ◌^◌, ◌<◌, ℕ, true, IfOk};
+ghost use Rattle.std.specs.Prelude.{◌≡◌, ◌-◌, ◌^◌, ◌<◌, IfOk};
 ghost use Rattle.ibc_ids.specs.Paths.{nth_connection};
-ghost use Rattle.ibc_machine.specs.declared.reply.Effect.TheVariants as effect;
-ghost use Rattle.ibc_machine.specs.ics03.Connections.{conn_open_try, has_connection, may_conn_try};
-ghost use Rattle.ibc_machine.specs.chain.Records.{is_known_height};
-ghost use Rattle.ibc_records.specs.RecordsModel.{core_of};
-ghost use Rattle.ibc_records.specs.HandlerContract.{IsHandled, host_with};
-ghost use Rattle.ibc_records.specs.ProofVerdicts.{IsJudged, IsShown};
-ghost use Rattle.ibc_connection.specs.ConnectionHandshake.{AreProofs, new_end, expected_init_end, try_end};
+ghost use Rattle.ibc_connection.specs.ConnectionHandshake.{AreProofs, IsConnectionInitShown};
+ghost use Rattle.ibc_records.specs.OwnEnds.{KnowsHeight};
+ghost use Rattle.ibc_connection.specs.ConnectionHandlers.{HandlesConnOpenTry, JudgesConnOpenTry, IsTryAllowed};
 
 use crate::checks::{add_connection, check_number, names_host};
 use crate::claims::{Proofs, check_client_state, check_connection, read_proofs};
@@ -30,7 +26,7 @@ pub fn open_try(
     chain: u8,
     message: &ConnOpenTry,
 ) -> Result<ConnectionId, Refusal>
-    ensures answer { (chains : ℕ) → IsHandled effect.Connection (conn_open_try message.now) chain chains records.old result records.new }
+    ensures answer { HandlesConnOpenTry chain message.now records.old result records.new }
     ensures named { IfOk result (λ id. id ≡ nth_connection records.old.next_connection) }
 {
     let mut memory = records.take_memory();
@@ -47,7 +43,7 @@ fn open_try_with(
     chain: u8,
     message: &ConnOpenTry,
 ) -> Result<ConnectionId, Refusal>
-    ensures answer { (chains : ℕ) → IsHandled effect.Connection (conn_open_try message.now) chain chains records.old result records.new }
+    ensures answer { HandlesConnOpenTry chain message.now records.old result records.new }
     ensures named { IfOk result (λ id. id ≡ nth_connection records.old.next_connection) }
 {
     let proofs = read_proofs(alloc, &message.proof_end, &message.proof_client)?;
@@ -73,7 +69,7 @@ fn check_try(
     proofs: &Proofs,
 ) -> Result<(), Refusal>
     requires { AreProofs message.now.proof_end message.now.proof_client proofs.now }
-    ensures judged { (chains : ℕ) → IsJudged (conn_open_try message.now) chain chains records.now (λ _. new_end (try_end message.now) (core_of records.now)) result }
+    ensures judged { JudgesConnOpenTry chain message.now records.now result }
     ensures free { IfOk result (λ _. records.now.next_connection < 2 ^ 64 - 1) }
 {
     may_try(records, chain, message)?;
@@ -92,9 +88,9 @@ fn check_try(
 
 // The checks that need no proof, in their order.
 fn may_try(records: &Records, chain: u8, message: &ConnOpenTry) -> Result<(), Refusal>
-    ensures checked { (chains : ℕ) → result ≡ may_conn_try (host_with chain chains records.now) (core_of records.now) message.now }
+    ensures checked { IsTryAllowed chain message.now records.now result }
     ensures free { IfOk result (λ _. records.now.next_connection < 2 ^ 64 - 1) }
-    ensures known { IfOk result (λ _. is_known_height (core_of records.now) message.now.client message.now.height ≡ true) }
+    ensures known { IfOk result (λ _. KnowsHeight records.now message.now.client message.now.height) }
 {
     check_client(records, &message.client)?;
     if !names_host(records, chain, message.claim) {
@@ -113,8 +109,8 @@ fn check_begun(
     message: &ConnOpenTry,
     proof: &Proof,
 ) -> Result<(), Refusal>
-    requires { is_known_height (core_of records.now) message.now.client message.now.height ≡ true }
-    ensures { IsShown records.now message.now.client message.now.height (has_connection message.now.peer_connection (expected_init_end message.now)) proof.now result }
+    requires { KnowsHeight records.now message.now.client message.now.height }
+    ensures { IsConnectionInitShown records.now message.now proof.now result }
 {
     let theirs = ConnectionEnd {
         state: ConnectionState::Init,

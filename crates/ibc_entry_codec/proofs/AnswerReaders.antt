@@ -4,7 +4,7 @@ use Rattle.ibc_ids.specs.Texts.{Text}
 use Rattle.ibc_ids.specs.Names.{is_client, is_connection, is_channel}
 use Rattle.ibc_ids.specs.Refusals.{number_of}
 use Rattle.ibc_ids.proofs.Ascii.{clients, connections, channels}
-use Rattle.ibc_wire.specs.Fields.{Field, one_byte, be64, root32}
+use Rattle.ibc_wire.specs.Fields.{one_byte, be64, root32}
 use Rattle.ibc_wire.specs.Reading.{◌>>=◌, Front, byte_at_front}
 use Rattle.ibc_wire.specs.Fronts.{coded_at_front}
 use Rattle.ibc_wire.specs.Lawful.{AreBytes, Begins, IsReader}

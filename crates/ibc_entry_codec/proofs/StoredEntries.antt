@@ -1,22 +1,17 @@
 -- Entries that are kept as bytes.
-use Rattle.std.proofs.Common.{◌≡◌, ℕ, [], ◌∷◌, refl, sym, ap, subst, ◌∙◌}
+use Rattle.std.proofs.Common.{◌≡◌, ℕ, [], ◌∷◌, refl, sym, ◌∙◌}
 use Rattle.ibc_ids.specs.Texts.{Text}
 use Rattle.ibc_wire.specs.Fields.{be64, Spells}
 use Rattle.ibc_wire.specs.Lawful.{IsReader}
-use Rattle.ibc_wire.specs.Messages.{message_fields}
 use Rattle.ibc_wire.proofs.FieldReaders.{first, done, reader_of}
 use Rattle.ibc_wire.proofs.Readers.{n8_reader}
 use Rattle.ibc_wire.proofs.Whole.{one_value}
 use Rattle.ibc_message_codec.proofs.MessageReader.{message_reader}
 use Rattle.ibc_machine.specs.declared.event.Event.{Event}
 use Rattle.ibc_machine.specs.declared.event.Event.TheVariants as event
-use Rattle.ibc_machine.specs.declared.entry.Entry.{Entry}
 use Rattle.ibc_machine.specs.ledger.Ledgers.{chain_of}
-use Rattle.ibc_entry_codec.specs.Answers.{answer_fields}
 use Rattle.ibc_entry_codec.specs.Times.{time_at_front}
-use Rattle.ibc_entry_codec.specs.Stored.{event_fields, event_kind, answer_to, StoresEntry, IsOfOneEntry}
-use Rattle.ibc_entry_codec.specs.declared.answer.EntryAnswer.{EntryAnswer}
-use Rattle.ibc_entry_codec.specs.declared.stored.EntryBytes.{EntryBytes}
+use Rattle.ibc_entry_codec.specs.Stored.{event_fields, event_kind, answer_to, IsOfOneEntry}
 use Rattle.ibc_entry_codec.specs.declared.stored.NextTime.{NextTime}
 use Rattle.ibc_entry_codec.proofs.AnswerReaders.{answer_reader}
 

@@ -9,6 +9,7 @@ use Rattle.ibc_machine.specs.declared.event.Event.TheVariants as event
 use Rattle.ibc_machine.specs.ledger.Ledgers.{Ledger}
 use Rattle.ibc_machine.specs.ledger.Replay.{StampedEntry}
 use Rattle.ibc_wire.specs.Kinds.{kind_of}
+use Rattle.ibc_ledger.specs.declared.entry.StampedEntry.{StampedEntry as KeptEntry}
 use Rattle.ibc_script.specs.EventKinds.{kind_name_of}
 use Rattle.ibc_script.specs.declared.event_kind.EventKind.{EventKind}
 use Rattle.ibc_script.specs.declared.event_kind.EventKind.TheVariants as kind
@@ -16,6 +17,7 @@ use Rattle.ibc_script_cli.specs.Lines.{reply_words, spaced_words}
 use Rattle.ibc_script_cli.specs.Runs.{name_of}
 use Rattle.ibc_explain.specs.declared.places.EntryPlace.{EntryPlace}
 use Rattle.ibc_explain.specs.declared.places.PlacedLine.{PlacedLine}
+use Rattle.ibc_explain.specs.declared.places.Placing.{Placing}
 
 abbrev pub event_kind : Event → EventKind
 event_kind (event.Message chain m) = kind.Message (kind_of m)
@@ -34,9 +36,17 @@ entry_at ledgers place =
     option_map (λ (stamped : StampedEntry). stamped.entry)
     (option_and_then (λ (ledger : Ledger). slice_get ledger.history place.index) (slice_get ledgers place.chain))
 
+-- the entry behind so many others of a history that is kept
+abbrev pub kept_entry : List KeptEntry → ℕ → Option Entry
+kept_entry history index = option_map (λ stamped. stamped.entry) (slice_get history index)
+
 -- the line is that of the entry at the place
 abbrev pub IsLineOf : List Text → List Ledger → Text → EntryPlace → Type 0
 IsLineOf names ledgers text place = (e : Entry) × (entry_at ledgers place ≡ Some e) × (text ≡ entry_line names place.chain e)
+
+-- the same among what the place is looked for
+abbrev pub IsLineIn : Placing → Text → EntryPlace → Type 0
+IsLineIn placing text = IsLineOf placing.names.now placing.world.now.ledgers text
 
 abbrev pub IsPlaced : List Text → List Ledger → PlacedLine → Type 0
 IsPlaced names ledgers line = IfSome line.place (IsLineOf names ledgers line.text.now)

@@ -12,6 +12,7 @@ use Rattle.ibc_explain.specs.declared.explanation.Explanation.{Explanation}
 use Rattle.ibc_explain.specs.declared.places.EntryPlace.{EntryPlace}
 use Rattle.ibc_explain.specs.declared.facts.Facts.{Facts}
 use Rattle.ibc_explain.specs.declared.facts.PacketName.{PacketName}
+use Rattle.ibc_explain.specs.declared.running.ScriptRun.{ScriptRun}
 
 abbrev pub packet_name : PacketName → SentName
 packet_name p = (p.port.now, p.channel.now, p.sequence)
@@ -51,3 +52,7 @@ IsExplained ledgers line = IsExplainedBy ledgers line.told line.line.place
 pub record AreExplained (names : List Text) (ledgers : List Ledger) (text : Text) (lines : List ExplainedLine) : Type 0 where
   pub whole : AreLinesOf names ledgers text (map (λ (x : ExplainedLine). x.line) lines)
   pub told : All (IsExplained ledgers) lines
+
+-- the same of a run of a script
+abbrev pub AreExplainedIn : ScriptRun → List ExplainedLine → Type 0
+AreExplainedIn run = AreExplained run.names.items run.world.ledgers run.text.items

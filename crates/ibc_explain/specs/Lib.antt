@@ -6,3 +6,4 @@ pub mod Explanations
 pub mod Outcomes
 pub mod Packets
 pub mod RunsOf
+pub mod TakenActs

@@ -1,7 +1,7 @@
 //! A run, line by line, with what each line is about.
 
 ghost use Rattle.std.specs.Prelude.{◌≡◌, All, IfOk, map};
-ghost use Rattle.ibc_explain.specs.Explanations.{AreExplained, IsExplained, IsExplainedBy};
+ghost use Rattle.ibc_explain.specs.Explanations.{AreExplainedIn, IsExplained, IsExplainedBy};
 
 use crate::{
     Absent, EntryPlace, Explanation, NotPlaced, PlacedLine, ScriptRun, explanation_of, placed_lines,
@@ -41,7 +41,7 @@ impl ExplainedLine<'_> {
 
 /// The lines of a run, in their order, each with the entry that it is of, explained; no line and no entry is left out.
 pub fn explained(alloc: Global, run: &ScriptRun) -> Result<Vec<ExplainedLine<'_>>, NotPlaced>
-    ensures { IfOk result (λ lines. AreExplained run.now.names.items run.now.world.ledgers run.now.text.items lines.items) }
+    ensures { IfOk result (λ lines. AreExplainedIn run.now lines.items) }
 {
     let Ok(text) = str::from_utf8(run.text.as_slice()) else {
         return Err(NotPlaced::LeftOut);

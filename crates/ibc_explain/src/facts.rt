@@ -2,6 +2,7 @@
 
 ghost use Rattle.std.specs.Prelude.{◌≡◌, option_map};
 ghost use Rattle.ibc_explain.specs.Clients.{created_client, ended_height, entry_client, entry_height, entry_tracked, known_chain, message_client, message_height, message_tracked};
+ghost use Rattle.ibc_explain.specs.Explanations.{packet_name, packet_told};
 ghost use Rattle.ibc_explain.specs.Packets.{entry_packet, message_packet, name_of_packet, sent_by};
 
 use ibc_ids::{ChannelId, ClientId, ConnectionId, Refusal};
@@ -30,7 +31,7 @@ pub struct Facts<'e> {
 
 /// What an entry is about.
 pub fn facts_of(entry: &Entry) -> Facts<'_>
-    ensures packet { option_map (λ p. (p.port.now, p.channel.now, p.sequence)) result.packet ≡ entry_packet entry.now }
+    ensures packet { packet_told result ≡ entry_packet entry.now }
     ensures client { option_map (λ client. client.now) result.client ≡ entry_client entry.now }
     ensures tracked { result.tracked ≡ entry_tracked entry.now }
     ensures height { result.height ≡ entry_height entry.now }
@@ -47,7 +48,7 @@ pub fn facts_of(entry: &Entry) -> Facts<'_>
 
 /// The packet that an entry is about.
 pub fn packet_of(entry: &Entry) -> Option<PacketName<'_>>
-    ensures { option_map (λ p. (p.port.now, p.channel.now, p.sequence)) result ≡ entry_packet entry.now }
+    ensures { option_map packet_name result ≡ entry_packet entry.now }
 {
     match &entry.event {
         Event::Message { message, .. } => packet_of_message(message, &entry.reply),
@@ -56,7 +57,7 @@ pub fn packet_of(entry: &Entry) -> Option<PacketName<'_>>
 }
 
 fn packet_of_message<'e>(message: &'e Message, reply: &Reply) -> Option<PacketName<'e>>
-    ensures { option_map (λ p. (p.port.now, p.channel.now, p.sequence)) result ≡ message_packet message.now reply.now }
+    ensures { option_map packet_name result ≡ message_packet message.now reply.now }
 {
     match message {
         Message::Transfer(message) => sent_by("transfer", &message.channel, reply),
@@ -71,7 +72,7 @@ fn packet_of_message<'e>(message: &'e Message, reply: &Reply) -> Option<PacketNa
 }
 
 fn sent_by<'e>(port: &'static str, channel: &'e ChannelId, reply: &Reply) -> Option<PacketName<'e>>
-    ensures { option_map (λ p. (p.port.now, p.channel.now, p.sequence)) result ≡ sent_by port.now channel.now reply.now }
+    ensures { option_map packet_name result ≡ sent_by port.now channel.now reply.now }
 {
     match reply {
         Reply::Ok(Effect::Sent(sequence)) => Some(PacketName {

@@ -1,8 +1,8 @@
 //! Lines of a run, and the entries that they are of.
 
-ghost use Rattle.std.specs.Prelude.{◌≡◌, ◌≤◌, ◌<◌, ◌+◌, ◌∷◌, ◌++◌, IfOk, IfSome, IsTrue, length, option_map, slice_get, true};
+ghost use Rattle.std.specs.Prelude.{◌≡◌, ◌≤◌, ◌<◌, ◌+◌, ◌∷◌, ◌++◌, IfOk, IfSome, IsTrue, length, option_map, true};
 ghost use Rattle.ibc_script_cli.specs.Runs.{name_of};
-ghost use Rattle.ibc_explain.specs.EntryLines.{AreLinesOf, IsLineOf, IsPlaced, entries_of, entry_at, event_kind, named_line};
+ghost use Rattle.ibc_explain.specs.EntryLines.{AreLinesOf, IsLineIn, IsPlaced, entries_of, entry_at, event_kind, kept_entry, named_line};
 ghost use Rattle.ibc_explain.specs.Counts.{AllAreTold, GoesOn, IsNext};
 
 use ibc_ids::Refusal;
@@ -153,7 +153,7 @@ pub fn entry_at(world: &World, place: EntryPlace) -> Option<&Entry>
 
 // The entry behind so many others of a history.
 fn entry_in(history: &[StampedEntry], index: usize) -> Option<&Entry>
-    ensures { option_map (λ entry. entry.now) result ≡ option_map (λ stamped. stamped.entry) (slice_get history.now index) }
+    ensures { option_map (λ entry. entry.now) result ≡ kept_entry history.now index }
 {
     match history.get(index) {
         Some(stamped) => Some(&stamped.entry),
@@ -186,7 +186,7 @@ impl<'w> Placing<'w> {
     // The place of the entry that a line is of: the next one of the chain that it names.
     fn place_of(&self, line: &str, next: &[usize]) -> Result<Option<EntryPlace>, Refusal>
         requires { length next.now ≤ 8 }
-        ensures is { IfOk result (λ place. IfSome place (IsLineOf self.now.names.now self.now.world.now.ledgers line.now)) }
+        ensures is { IfOk result (λ place. IfSome place (IsLineIn self.now line.now)) }
         ensures next { IfOk result (λ place. IfSome place (IsNext next.now)) }
         ensures small { IfOk result (λ place. IfSome place (λ p. p.index < usize.MAX)) }
     {
@@ -201,7 +201,7 @@ impl<'w> Placing<'w> {
 
     // The place of a chain's next entry, where the line is that of this entry.
     fn place_on(&self, line: &str, chain: u8, next: &[usize]) -> Result<Option<EntryPlace>, Refusal>
-        ensures is { IfOk result (λ place. IfSome place (IsLineOf self.now.names.now self.now.world.now.ledgers line.now)) }
+        ensures is { IfOk result (λ place. IfSome place (IsLineIn self.now line.now)) }
         ensures next { IfOk result (λ place. IfSome place (IsNext next.now)) }
         ensures small { IfOk result (λ place. IfSome place (λ p. p.index < usize.MAX)) }
     {
@@ -230,7 +230,7 @@ impl<'w> Placing<'w> {
 
     // Whether a line is that of the entry at a place.
     fn is_line_of(&self, line: &str, place: EntryPlace) -> Result<bool, Refusal>
-        ensures { IfOk result (λ is. IsTrue is → IsLineOf self.now.names.now self.now.world.now.ledgers line.now place) }
+        ensures { IfOk result (λ is. IsTrue is → IsLineIn self.now line.now place) }
     {
         let name = self.name(place.chain);
         if !line.starts_with(name) {

@@ -1,12 +1,11 @@
 //! A script is run, and its world is kept, with what was seen on the way.
 
-ghost use Rattle.std.specs.Prelude.{◌≡◌, ◌⊎◌, ◌≤◌, ◌∷◌, [], IfErr, IfOk, Some, length, map};
+ghost use Rattle.std.specs.Prelude.{◌≡◌, ◌⊎◌, ◌≤◌, ◌∷◌, [], IfErr, IfOk, length};
 ghost use Rattle.ibc_machine.specs.chain.Genesis.{genesis_state};
 ghost use Rattle.ibc_world_core.specs.EveryWorld.{IsLawfulUnlessClash};
 ghost use Rattle.ibc_script.specs.Faults.{IsRunFault};
-ghost use Rattle.ibc_script_cli.specs.Runs.{Reached, acts_of};
 ghost use Rattle.ibc_script_cli.specs.Runs.Act.{Take};
-ghost use Rattle.ibc_script_worlds.specs.WorldChains.{IsNewWorld, world_chains};
+ghost use Rattle.ibc_script_worlds.specs.WorldChains.{IsNewWorld};
 ghost use Rattle.ibc_explain.specs.RunsOf.{IsRunOf};
 
 use crate::{Absent, EntryPlace, Watched};
@@ -96,6 +95,8 @@ fn run_on(alloc: Global, chains: ScriptWorld, script: Script) -> Result<ScriptRu
 }
 
 impl Running {
+    ghost use Rattle.ibc_explain.specs.TakenActs.{HasTaken, HasTakenAll, HasTakenEach};
+
     // Takes steps, and then tells what the chains hold.
     fn take_all(
         &mut self,
@@ -104,7 +105,7 @@ impl Running {
         steps: Vec<Step>,
     ) -> Result<(), Fault>
         requires { length names.now ≤ 8 }
-        ensures ran { IfOk result (λ _. Reached world_chains names.now (acts_of steps.items (length names.now)) self.old.chains (Some self.old.text.items) [] self.new.chains (Some self.new.text.items)) }
+        ensures ran { IfOk result (λ _. HasTakenAll names.now steps.items self.old self.new) }
         ensures faults { IfErr result IsRunFault }
     {
         let runner = Runner::new(alloc, names);
@@ -116,7 +117,7 @@ impl Running {
 
     // Takes steps in turn.
     fn take_each(&mut self, runner: &Runner<'_>, steps: Vec<Step>) -> Result<(), Fault>
-        ensures ran { IfOk result (λ _. Reached world_chains runner.now.names.now (map Take steps.items) self.old.chains (Some self.old.text.items) [] self.new.chains (Some self.new.text.items)) }
+        ensures ran { IfOk result (λ _. HasTakenEach runner.now.names.now steps.items self.old self.new) }
         ensures faults { IfErr result IsRunFault }
     {
         for step in steps {
@@ -127,7 +128,7 @@ impl Running {
 
     // Takes a step, and notes how it ended.
     fn take(&mut self, runner: &Runner<'_>, step: Step) -> Result<(), Fault>
-        ensures ran { IfOk result (λ _. Reached world_chains runner.now.names.now (Take step ∷ []) self.old.chains (Some self.old.text.items) [] self.new.chains (Some self.new.text.items)) }
+        ensures ran { IfOk result (λ _. HasTaken runner.now.names.now (Take step ∷ []) self.old self.new) }
         ensures faults { IfErr result IsRunFault }
     {
         runner.take(&mut self.chains, step, &mut self.text)?;

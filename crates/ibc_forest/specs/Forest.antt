@@ -30,3 +30,7 @@ pub record IsSortedHeight (trees : List Tree) (height : Height) : Type 0 where
 
 abbrev pub AreSortedHeights : List Tree → List Height → Type 0
 AreSortedHeights trees kept = All (IsSortedHeight trees) kept
+
+-- the kept heights have the same pairs and times
+abbrev pub HaveSamePairs : List Tree → List Tree → List Height → List Height → Type 0
+HaveSamePairs old new kept next = kept_pairs new next ≡ kept_pairs old kept

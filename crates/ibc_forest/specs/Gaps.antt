@@ -1,7 +1,7 @@
 -- Pairs that differ from the last ones in gaps alone, and how their leaves are found.
-use Rattle.std.specs.Prelude.{◌≡◌, ℕ, ◌+◌, ◌<◌, ◌≤◌, List, [], ◌∷◌, length, take, drop, map, slice_set, slice_index_or, ⊤}
+use Rattle.std.specs.Prelude.{◌≡◌, ℕ, ◌+◌, ◌<◌, ◌≤◌, List, [], ◌∷◌, length, take, drop, map, slice_set, slice_index_or, IsTrue, ⊤}
 use Rattle.ibc_merkle.specs.Tree.{Pairs, Tree}
-use Rattle.ibc_forest.specs.Leaves.{from_key}
+use Rattle.ibc_forest.specs.Leaves.{from_key, is_in_front, row_pairs}
 use Rattle.ibc_forest.specs.Levels.{leaf_of, trees_at}
 use Rattle.ibc_forest.specs.NodeLevels.{Stand}
 use Rattle.ibc_forest.specs.declared.gap.Gap.{Gap}
@@ -30,3 +30,21 @@ pub record HasFirst (trees : List Tree) (pairs : Pairs) (row : List ℕ) : Type 
   pub leaves : trees_at trees row ≡ map leaf_of (take (length row) pairs)
   pub stand : Stand trees row
   pub within : length row ≤ length pairs
+
+-- the pairs from one place on are found from a place of a row of leaves on
+abbrev pub IsFoundIn : List Tree → List ℕ → ℕ → ℕ → Pairs → Type 0
+IsFoundIn trees old place from pairs = IsFoundFrom (row_pairs trees old) place (drop from pairs)
+
+-- the next four pairs all stand in front of a place of a row of leaves
+abbrev pub FourStandInFront : List Tree → List ℕ → ℕ → List ℕ → Pairs → Type 0
+FourStandInFront trees old place row pairs =
+    IsTrue (is_in_front (slice_index_or pairs (length row + 3) ([], [])).0 (drop place (row_pairs trees old)))
+
+-- pairs that differ in the gaps alone differ at one place
+abbrev pub DifferAtOne : List Gap → ℕ → Type 0
+DifferAtOne gaps index = (last pairs : Pairs) → DifferIn gaps last pairs → IsOneOther index last pairs
+
+-- so many first numbers are the same in rows that differ in the gaps alone, the first of which has so many
+abbrev pub IsFrontOf : List Gap → ℕ → ℕ → Type 0
+IsFrontOf gaps count front =
+    (old row : List ℕ) → length old ≡ count → DifferIn gaps old row → (front ≤ length row) × (take front row ≡ take front old)

@@ -28,3 +28,7 @@ FrontStays waiting before after = (first : ℕ) → first ≤ length before → 
 -- the first digests are those of the pairs below places, in their order
 abbrev pub AreDigestsOver : List Tree → List ℕ → List ℕ → List Text → Type 0
 AreDigestsOver trees row places digests = (k : ℕ) → k < 4 → k < length places → slice_index_or digests k [] ≡ root (node_over trees row (slice_index_or places k 0))
+
+-- where no place waited in front of a place, none waits there after the change either
+abbrev pub WaitingStaysBehind : ℕ → List ℕ → List ℕ → Type 0
+WaitingStaysBehind place before after = (first : ℕ) → first ≤ place → WaitBehind first before → WaitBehind first after

@@ -1,9 +1,11 @@
 pub mod AddedLeaves
 pub mod Codes
+pub mod Commits
 pub mod Counts
 pub mod Forest
 pub mod ForestModel
 pub mod Gaps
+pub mod Hashes
 pub mod Heights
 pub mod StoredPairs
 pub mod Leaves
@@ -13,5 +15,7 @@ pub mod NewPairs
 pub mod Nodes
 pub mod NodeLevels
 pub mod Gathered
+pub mod Parents
 pub mod Replacements
+pub mod SameKeys
 pub mod Shelves

@@ -3,7 +3,7 @@ use Rattle.std.specs.Prelude.{◌≡◌, ℕ, zero, suc, ◌+◌, ◌*◌, ◌/�
 use Rattle.std.specs.List.{All}
 use Rattle.std.specs.declared.alloc.Global.{Global}
 use Rattle.ibc_merkle.specs.Tree.{Tree}
-use Rattle.ibc_forest.specs.Levels.{pair_up, trees_at}
+use Rattle.ibc_forest.specs.Levels.{pair_up, tree_over, tree_at, trees_at}
 
 -- all numbers of a row are those of nodes
 abbrev pub Stand : List Tree → List ℕ → Type 0
@@ -60,3 +60,19 @@ pub record HasLevelsOver (trees : List Tree) (before : List (Vec ℕ Global)) (r
   pub above : List (Vec ℕ Global)
   pub added : rows_of after ≡ rows_of before ++ row ∷ rows_of above
   pub levels : IsPyramid trees (row ∷ rows_of above)
+
+-- the row of the leaves, below all others
+abbrev pub leaves_of : List (Vec ℕ Global) → List ℕ
+leaves_of rows = first_row (rows_of rows)
+
+-- a row is as long as that of the leaves
+abbrev pub IsAsLong : List (Vec ℕ Global) → List ℕ → Type 0
+IsAsLong rows row = length row ≡ length (leaves_of rows)
+
+-- a node is the root over the leaves
+abbrev pub IsRootOver : List Tree → List (Vec ℕ Global) → ℕ → Type 0
+IsRootOver trees rows node = tree_at trees node ≡ tree_over (trees_at trees (leaves_of rows))
+
+-- the leaves are those of before, but for the one at a place
+abbrev pub PutsLeaf : List (Vec ℕ Global) → List (Vec ℕ Global) → ℕ → ℕ → Type 0
+PutsLeaf before after place leaf = leaves_of after ≡ slice_set (leaves_of before) place leaf

@@ -1,9 +1,10 @@
 -- Nodes that were moved to other nodes.
-use Rattle.std.specs.Prelude.{◌≡◌, ℕ, suc, ◌+◌, ◌<◌, List, length, slice_index_or, Option, Some, None, ⊤}
+use Rattle.std.specs.Prelude.{◌≡◌, ℕ, suc, ◌+◌, ◌<◌, List, length, map, slice_index_or, Option, Some, None, Vec, ⊤}
 use Rattle.std.specs.List.{All}
+use Rattle.std.specs.declared.alloc.Global.{Global}
 use Rattle.ibc_merkle.specs.Tree.{Tree, Leaf, Node}
-use Rattle.ibc_forest.specs.Levels.{tree_at}
-use Rattle.ibc_forest.specs.NodeLevels.{Stand}
+use Rattle.ibc_forest.specs.Levels.{tree_at, trees_at}
+use Rattle.ibc_forest.specs.NodeLevels.{Stand, rows_of}
 
 -- how many nodes a tree has
 abbrev pub node_count : Tree → ℕ
@@ -23,3 +24,7 @@ AreMoved old new moved =
 -- all numbers of all rows are those of nodes
 abbrev pub AllStand : List Tree → List (List ℕ) → Type 0
 AllStand trees rows = All (Stand trees) rows
+
+-- the nodes of rows are the same trees as those of other rows
+abbrev pub HaveSameTrees : List Tree → List Tree → List (Vec ℕ Global) → List (Vec ℕ Global) → Type 0
+HaveSameTrees old new rows next = map (trees_at new) (rows_of next) ≡ map (trees_at old) (rows_of rows)

@@ -57,3 +57,7 @@ AllRemember trees known = (left : ℕ) (d : KnownParent) → left < length known
 -- all trees stay, and more come behind them
 abbrev pub Grows : List Tree → List Tree → Type 0
 Grows before after = (more : List Tree) × (after ≡ before ++ more)
+
+-- behind the trees of before stands that of one more node
+abbrev pub AddsNode : ArenaNode → List Tree → List Tree → Type 0
+AddsNode node before after = after ≡ before ++ tree_of_node before node.below ∷ []

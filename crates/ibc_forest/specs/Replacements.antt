@@ -1,9 +1,12 @@
 -- Other leaves at places of a tree, and what puts back what they replaced.
-use Rattle.std.specs.Prelude.{◌≡◌, ℕ, ◌+◌, ◌/◌, ◌<◌, List, [], ◌∷◌, length, take, drop, slice_set, slice_index_or}
+use Rattle.std.specs.Prelude.{◌≡◌, ℕ, ◌+◌, ◌/◌, ◌<◌, List, [], ◌∷◌, length, take, drop, map, slice_set, slice_index_or, Vec}
 use Rattle.std.specs.List.{All}
+use Rattle.std.specs.declared.alloc.Global.{Global}
 use Rattle.ibc_merkle.specs.Tree.{Pairs, Tree}
 use Rattle.ibc_forest.specs.Gaps.{HasFirst}
-use Rattle.ibc_forest.specs.NodeLevels.{with_replaced}
+use Rattle.ibc_forest.specs.Leaves.{differ_count}
+use Rattle.ibc_forest.specs.Levels.{leaf_of, trees_at}
+use Rattle.ibc_forest.specs.NodeLevels.{with_replaced, rows_of}
 use Rattle.ibc_forest.specs.declared.gap.Gap.{Gap}
 use Rattle.ibc_forest.specs.declared.replacement.NotedPath.{NotedPath}
 use Rattle.ibc_forest.specs.declared.replacement.Replacement.{Replacement}
@@ -45,3 +48,28 @@ put_back (path ∷ noted) rows = with_replaced (put_back noted rows) path.place 
 -- each noted path has a node for each of so many rows
 abbrev pub AreLong : ℕ → List NotedPath → Type 0
 AreLong count noted = All (λ (path : NotedPath). length path.nodes.items ≡ count) noted
+
+-- no other leaf stands at a place of the row
+abbrev pub HasOwnLeaf : List ℕ → List Replacement → ℕ → Type 0
+HasOwnLeaf row others place = slice_index_or (with_leaves row others) place 0 ≡ slice_index_or row place 0
+
+-- one more leaf stands at a place of the row
+abbrev pub AddsOther : List ℕ → ℕ → ℕ → List Replacement → List Replacement → Type 0
+AddsOther row place leaf before after = with_leaves row after ≡ slice_set (with_leaves row before) place leaf
+
+-- where the leaf is there, the other leaves go on fitting into the row
+abbrev pub StayFit : List ℕ → ℕ → List Replacement → List Replacement → Type 0
+StayFit row leaf before after =
+    (trees : List Tree) → leaf < length trees → FitIn (length row) trees before → FitIn (length row) trees after
+
+-- there is one other leaf more if the leaf isn't that of the row at the place
+abbrev pub AddsOneIfOther : List ℕ → ℕ → ℕ → List Replacement → List Replacement → Type 0
+AddsOneIfOther row place leaf before after = length after ≡ length before + differ_count leaf (slice_index_or row place 0)
+
+-- with the other leaves the row has the leaves of the pairs
+abbrev pub LeadTo : List Tree → List ℕ → List Replacement → Pairs → Type 0
+LeadTo trees row others pairs = trees_at trees (with_leaves row others) ≡ map leaf_of pairs
+
+-- the rows as they stood before what was noted
+abbrev pub rows_before : List NotedPath → List (Vec ℕ Global) → List (List ℕ)
+rows_before noted rows = put_back noted (rows_of rows)

@@ -7,7 +7,9 @@ ghost use Rattle.ibc_merkle.specs.Tree.{Node, root};
 ghost use Rattle.ibc_forest.specs.Counts.{CountsAtLeast};
 ghost use Rattle.ibc_forest.specs.Levels.{leaf_of, tree_at, trees_at};
 ghost use Rattle.ibc_forest.specs.NodeLevels.{Stand};
-ghost use Rattle.ibc_forest.specs.Nodes.{tree_of_node, ChildrenStand, IsRight, Grows};
+ghost use Rattle.ibc_forest.specs.Nodes.{tree_of_node, ChildrenStand, IsRight, Grows, AddsNode};
+ghost use Rattle.ibc_forest.specs.Parents.{IsParent};
+ghost use Rattle.ibc_forest.specs.Hashes.{HashesOneIfNew};
 
 use crate::node::{ArenaNode, Below, KnownParent};
 use crate::nodes::Nodes;
@@ -107,7 +109,7 @@ impl Arena {
     /// Adds a node with its digest. Nothing is hashed.
     pub fn add(&mut self, node: ArenaNode) -> Result<usize, AllocError>
         requires { IsRight self.old.trees node }
-        ensures ok { OnOk result (self.new.trees ≡ self.old.trees ++ tree_of_node self.old.trees node.below ∷ []) }
+        ensures ok { OnOk result (AddsNode node self.old.trees self.new.trees) }
         ensures number { IfOk result (λ number. number ≡ length self.old.trees) }
         ensures err { OnErr result (self.new.trees ≡ self.old.trees) }
         ensures steps { self.new.steps ≡ self.old.steps }
@@ -211,11 +213,11 @@ impl Arena {
     pub fn pair(&mut self, left: usize, right: usize) -> Result<usize, AllocError>
         requires left { left < length self.old.trees }
         requires right { right < length self.old.trees }
-        ensures made { IfOk result (λ number. tree_at self.new.trees number ≡ Node (tree_at self.old.trees left) (tree_at self.old.trees right)) }
+        ensures made { IfOk result (λ number. IsParent self.old self.new left right number) }
         ensures there { IfOk result (λ number. number < length self.new.trees) }
         ensures grows { Grows self.old.trees self.new.trees }
         ensures known { IfOk result (λ number. number < length self.old.trees → self.new ≡ self.old) }
-        ensures hashed { IfOk result (λ number. length self.old.trees ≤ number → self.new.steps ≡ one_more self.old.steps) }
+        ensures hashed { IfOk result (λ number. HashesOneIfNew self.old self.new number) }
         ensures err { OnErr result (self.new.steps ≡ one_more self.old.steps) }
         ensures most { self.new.steps ≤ self.old.steps + 1 }
         ensures least { CountsAtLeast 0 self.old.steps self.new.steps }
@@ -229,7 +231,7 @@ impl Arena {
     /// The node over two nodes that the left one remembers, if it does.
     pub fn remembered(&self, left: usize, right: usize) -> Option<usize>
         requires { left < length self.now.trees }
-        ensures made { IfSome result (λ number. tree_at self.now.trees number ≡ Node (tree_at self.now.trees left) (tree_at self.now.trees right)) }
+        ensures made { IfSome result (λ number. IsParent self.now self.now left right number) }
         ensures there { IfSome result (λ number. number < length self.now.trees) }
     {
         let known = self.known[left];
@@ -244,7 +246,7 @@ impl Arena {
     pub fn join(&mut self, left: usize, right: usize) -> Result<usize, AllocError>
         requires left { left < length self.old.trees }
         requires right { right < length self.old.trees }
-        ensures made { IfOk result (λ number. tree_at self.new.trees number ≡ Node (tree_at self.old.trees left) (tree_at self.old.trees right)) }
+        ensures made { IfOk result (λ number. IsParent self.old self.new left right number) }
         ensures there { IfOk result (λ number. number < length self.new.trees) }
         ensures number { IfOk result (λ number. number ≡ length self.old.trees) }
         ensures grows { Grows self.old.trees self.new.trees }
@@ -266,7 +268,7 @@ impl Arena {
         requires left { left < length self.old.trees }
         requires right { right < length self.old.trees }
         requires digest { digest ≡ root (Node (tree_at self.old.trees left) (tree_at self.old.trees right)) }
-        ensures made { IfOk result (λ number. tree_at self.new.trees number ≡ Node (tree_at self.old.trees left) (tree_at self.old.trees right)) }
+        ensures made { IfOk result (λ number. IsParent self.old self.new left right number) }
         ensures there { IfOk result (λ number. number < length self.new.trees) }
         ensures number { IfOk result (λ number. number ≡ length self.old.trees) }
         ensures grows { Grows self.old.trees self.new.trees }
@@ -309,7 +311,7 @@ impl Arena {
         requires left { left < length self.old.trees }
         requires right { right < length self.old.trees }
         requires parent { parent < length self.old.trees }
-        requires pair { tree_at self.old.trees parent ≡ Node (tree_at self.old.trees left) (tree_at self.old.trees right) }
+        requires pair { IsParent self.old self.old left right parent }
         ensures { self.new ≡ self.old }
     {
         if right <= MOST && parent <= MOST {
@@ -325,7 +327,7 @@ impl Arena {
         requires left { left < length self.old.trees }
         requires right { right < length self.old.trees }
         requires parent { parent < length self.old.trees }
-        requires pair { tree_at self.old.trees parent ≡ Node (tree_at self.old.trees left) (tree_at self.old.trees right) }
+        requires pair { IsParent self.old self.old left right parent }
         ensures { self.new ≡ self.old }
     {
         if self.known[left].parent == 0 {

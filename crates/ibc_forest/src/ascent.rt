@@ -1,10 +1,10 @@
 //! Another node at a place of a tree, and those above it.
 
-ghost use Rattle.std.specs.Prelude.{◌≡◌, ◌+◌, ◌/◌, ◌<◌, ◌≤◌, length, slice_set, IfOk, OnOk};
+ghost use Rattle.std.specs.Prelude.{◌≡◌, ◌+◌, ◌<◌, ◌≤◌, length, IfOk, OnOk};
 ghost use Rattle.ibc_forest.specs.Counts.{CountsAtLeast};
-ghost use Rattle.ibc_forest.specs.Levels.{pair_up, tree_at, trees_at};
 ghost use Rattle.ibc_forest.specs.Nodes.{Grows};
-ghost use Rattle.ibc_forest.specs.NodeLevels.{Stand, IsPyramid, Climbs, rows_of, first_row, with_replaced};
+ghost use Rattle.ibc_forest.specs.NodeLevels.{Stand, IsPyramid, Climbs, rows_of, with_replaced, leaves_of};
+ghost use Rattle.ibc_forest.specs.Parents.{IsParentAt};
 
 use crate::arena::Arena;
 use std::alloc::AllocError;
@@ -19,7 +19,7 @@ fn parent_at(
     requires stand { Stand arena.old.trees row.now }
     requires place { index < length row.now }
     requires node { node < length arena.old.trees }
-    ensures pair { IfOk result (λ parent. pair_up (slice_set (trees_at arena.old.trees row.now) index (tree_at arena.old.trees node)) ≡ slice_set (pair_up (trees_at arena.old.trees row.now)) (index / 2) (tree_at arena.new.trees parent)) }
+    ensures pair { IfOk result (λ parent. IsParentAt arena.old arena.new row.now index node parent) }
     ensures there { IfOk result (λ parent. parent < length arena.new.trees) }
     ensures grows { Grows arena.old.trees arena.new.trees }
     ensures steps { arena.new.steps ≤ arena.old.steps + 1 }
@@ -43,7 +43,7 @@ pub fn climb(
     path: &mut Vec<usize>,
 ) -> Result<(), AllocError>
     requires levels { IsPyramid arena.old.trees (rows_of rows.now) }
-    requires place { index < length (first_row (rows_of rows.now)) }
+    requires place { index < length (leaves_of rows.now) }
     requires node { node < length arena.old.trees }
     ensures climbs { IfOk result (λ _. Climbs arena.new.trees (rows_of rows.now) index node path.old.items path.new.items) }
     ensures grows { Grows arena.old.trees arena.new.trees }

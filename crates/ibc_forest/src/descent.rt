@@ -1,12 +1,9 @@
 //! Proofs, read off a tree from its root down.
 
 ghost use Rattle.std.specs.Prelude.{◌≡◌, ◌+◌, ◌^◌, ◌<◌, ◌≤◌, vec_len, vec_capacity, slice_index_or, IsTrue, IfOk};
-ghost use Rattle.std.specs.Option.{IsSomeAnd};
 ghost use Rattle.std.specs.FinMap.{is_sorted};
 ghost use Rattle.ibc_ids.specs.Texts.{text_cmp};
-ghost use Rattle.ibc_merkle.specs.Tree.{tree};
-ghost use Rattle.ibc_merkle.specs.Written.{operations_to};
-ghost use Rattle.ibc_merkle.specs.PairPlaces.{key_at};
+ghost use Rattle.ibc_merkle.specs.PlacedProofs.{IsPathTo};
 ghost use Rattle.ibc_forest.specs.Heights.{pairs_of, IsTreeOver};
 
 use crate::node::Below;
@@ -48,7 +45,7 @@ pub fn operations_from(
     requires sorted { IsTrue (is_sorted text_cmp (pairs_of nodes.now node)) }
     requires there { index < count }
     requires few { above + count < 2 ^ 64 }
-    ensures operations { let pairs = pairs_of nodes.now node in IfOk result (λ operations. IsSomeAnd (operations_to (key_at pairs index) (tree pairs)) (λ found. operations.items ≡ found)) }
+    ensures operations { IfOk result (λ path. IsPathTo (pairs_of nodes.now node) index path.items) }
     ensures room { IfOk result (λ operations. vec_len operations + above ≤ vec_capacity operations) }
 {
     match nodes.below(node) {

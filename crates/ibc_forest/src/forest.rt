@@ -1,13 +1,11 @@
 //! The trees of a store's committed heights, over one arena.
 
-ghost use Rattle.std.specs.Prelude.{◌≡◌, ◌+◌, ◌-◌, ◌*◌, ◌^◌, ◌<◌, ◌≤◌, ◌∷◌, ◌++◌, [], ℕ, length, drop, slice_index_or, IsTrue, IfOk, OnOk, OnErr};
+ghost use Rattle.std.specs.Prelude.{◌≡◌, ◌+◌, ◌<◌, ◌≤◌, ◌∷◌, ◌++◌, [], length, drop, slice_index_or, IsTrue, IfOk, OnOk, OnErr};
 ghost use Rattle.std.specs.FinMap.{is_sorted};
 ghost use Rattle.ibc_ids.specs.Texts.{text_cmp};
 ghost use Rattle.ibc_merkle.specs.Tree.{tree_root};
-ghost use Rattle.ibc_merkle.specs.Written.{written_proof};
-ghost use Rattle.ibc_forest.specs.Counts.{CountsEachNewLeaf};
-ghost use Rattle.ibc_forest.specs.Leaves.{count_new, keys};
 ghost use Rattle.ibc_forest.specs.Gaps.{DifferIn};
+ghost use Rattle.ibc_forest.specs.Commits.{CommitCountsNew, CommitHashesFew, CommitHashesPathsOnOk, IsWrittenProof};
 
 use crate::arena::Arena;
 use crate::gap::Gap;
@@ -116,9 +114,9 @@ impl Forest {
         ensures last { OnOk result (self.new.last ≡ entries.now) }
         ensures kept { OnOk result (self.new.kept ≡ self.old.kept ++ (entries.now, time) ∷ []) }
         ensures more { self.old.digests ≤ self.new.digests }
-        ensures counts { OnOk result (CountsEachNewLeaf self.old.last entries.now self.old.digests self.new.digests) }
-        ensures few { OnOk result (self.new.digests + 1 ≤ self.old.digests + 2 * count_new self.old.last entries.now + length entries.now) }
-        ensures same { keys entries.now ≡ keys self.old.last → (log : ℕ) → length entries.now ≤ 2 ^ log → OnOk result (self.new.digests ≤ self.old.digests + count_new self.old.last entries.now * (2 + log)) }
+        ensures counts { OnOk result (CommitCountsNew entries.now self.old self.new) }
+        ensures few { OnOk result (CommitHashesFew entries.now self.old self.new) }
+        ensures same { CommitHashesPathsOnOk entries.now self.old self.new result }
         ensures err { OnErr result (self.new ≡ self.old) }
     {
         let gap = Gap {
@@ -143,9 +141,9 @@ impl Forest {
         ensures last { OnOk result (self.new.last ≡ entries.now) }
         ensures kept { OnOk result (self.new.kept ≡ self.old.kept ++ (entries.now, time) ∷ []) }
         ensures more { self.old.digests ≤ self.new.digests }
-        ensures counts { OnOk result (CountsEachNewLeaf self.old.last entries.now self.old.digests self.new.digests) }
-        ensures few { OnOk result (self.new.digests + 1 ≤ self.old.digests + 2 * count_new self.old.last entries.now + length entries.now) }
-        ensures same { keys entries.now ≡ keys self.old.last → (log : ℕ) → length entries.now ≤ 2 ^ log → OnOk result (self.new.digests ≤ self.old.digests + count_new self.old.last entries.now * (2 + log)) }
+        ensures counts { OnOk result (CommitCountsNew entries.now self.old self.new) }
+        ensures few { OnOk result (CommitHashesFew entries.now self.old self.new) }
+        ensures same { CommitHashesPathsOnOk entries.now self.old self.new result }
         ensures err { OnErr result (self.new ≡ self.old) }
     {
         self.gather();
@@ -167,7 +165,7 @@ impl Forest {
     /// The proof of what a kept height has at a key; the first of them is number 0. Nothing is hashed for it.
     pub fn prove(&self, alloc: Global, index: usize, key: &[u8]) -> Result<Proof, AllocError>
         requires { index < length self.now.kept }
-        ensures { IfOk result (λ proof. proof ≡ written_proof (slice_index_or self.now.kept index ([], 0)).0 key.now) }
+        ensures { IfOk result (λ proof. IsWrittenProof self.now.kept index key.now proof) }
     {
         let height = self.kept[index];
         prove_in(alloc, self.arena.nodes(), height.root, height.count, key)

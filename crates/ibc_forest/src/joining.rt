@@ -1,6 +1,6 @@
 //! New nodes of a row above: whole fours are hashed together, and the rest one by one.
 
-ghost use Rattle.std.specs.Prelude.{◌≡◌, ◌+◌, ◌*◌, ◌<◌, ◌≤◌, ◌∷◌, [], length, slice_index_or, OnOk};
+ghost use Rattle.std.specs.Prelude.{◌≡◌, ◌+◌, ◌*◌, ◌<◌, ◌≤◌, [], length, OnOk};
 ghost use Rattle.std.specs.List.{All};
 ghost use Rattle.ibc_merkle.specs.Tree.{root};
 ghost use Rattle.ibc_lanes.specs.Inner.{four_more, pair_hash};

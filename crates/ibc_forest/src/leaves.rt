@@ -1,16 +1,17 @@
 //! Rows of leaves.
 
-ghost use Rattle.std.specs.Prelude.{◌≡◌, [], ◌+◌, ◌*◌, ◌<◌, ◌≤◌, ◌++◌, Ok, length, drop, map, slice_index_or, take, IsTrue, IfOk, OnOk};
+ghost use Rattle.std.specs.Prelude.{◌≡◌, ◌+◌, ◌<◌, ◌≤◌, ◌++◌, Ok, length, drop, map, take, IsTrue, IfOk, OnOk};
 ghost use Rattle.std.specs.FinMap.{is_sorted};
-ghost use Rattle.ibc_forest.specs.AddedLeaves.{AreAdded};
+ghost use Rattle.ibc_forest.specs.AddedLeaves.{AddsLeavesOnOk};
 ghost use Rattle.ibc_forest.specs.Levels.{leaf_of, tree_at, trees_at};
-ghost use Rattle.ibc_forest.specs.Leaves.{pair_at, row_pairs, AreLeaves, from_key, behind_key, begins_with, is_in_front, is_new, count_new, keys, differ_count, differing_count};
-ghost use Rattle.ibc_forest.specs.Counts.{CountsAtLeast, CountsEachNewLeaf};
-ghost use Rattle.ibc_forest.specs.Gaps.{DifferIn, IsFoundFrom, IsOneOther, HasFirst};
+ghost use Rattle.ibc_forest.specs.Leaves.{pair_at, row_pairs, AreLeaves, begins_with, is_in_front, IsLeafAt, IsPlaceOfKey, IsPlaceBehind, KeepsLeaf};
+ghost use Rattle.ibc_forest.specs.Gaps.{DifferIn, IsOneOther, HasFirst, IsFoundIn, FourStandInFront};
 ghost use Rattle.ibc_forest.specs.Nodes.{Grows};
 ghost use Rattle.ibc_forest.specs.NodeLevels.{Stand};
 ghost use Rattle.ibc_ids.specs.Texts.{same_text, text_cmp};
 ghost use Rattle.ibc_merkle.specs.Proofs.{is_below};
+ghost use Rattle.ibc_forest.specs.Hashes.{HashesTwoIfNew, CountsTwoIfNew, HashesNew, CountsNew, HashesNewFrom, CountsNewFrom};
+ghost use Rattle.ibc_forest.specs.SameKeys.{DiffersIfNew, DiffersWhereNew, AddsOthersWhereNew};
 
 use crate::arena::Arena;
 use crate::gap::Gap;
@@ -48,7 +49,7 @@ fn stands_below(a: &[u8], b: &[u8]) -> bool
 pub(crate) fn place_from(arena: &Arena, row: &[usize], from: usize, key: &[u8]) -> usize
     requires leaves { AreLeaves arena.now.trees row.now }
     requires from { from ≤ length row.now }
-    ensures rest { drop result (row_pairs arena.now.trees row.now) ≡ from_key key.now (drop from (row_pairs arena.now.trees row.now)) }
+    ensures rest { IsPlaceOfKey (row_pairs arena.now.trees row.now) from key.now result }
     ensures within { result ≤ length row.now }
 {
     for at in from..row.len() {
@@ -63,7 +64,7 @@ pub(crate) fn place_from(arena: &Arena, row: &[usize], from: usize, key: &[u8]) 
 pub(crate) fn place_behind(arena: &Arena, row: &[usize], at: usize, key: &[u8]) -> usize
     requires leaves { AreLeaves arena.now.trees row.now }
     requires within { at ≤ length row.now }
-    ensures rest { drop result (row_pairs arena.now.trees row.now) ≡ behind_key key.now (drop at (row_pairs arena.now.trees row.now)) }
+    ensures rest { IsPlaceBehind (row_pairs arena.now.trees row.now) at key.now result }
     ensures within { result ≤ length row.now }
 {
     if at == row.len() {
@@ -101,9 +102,9 @@ pub(crate) fn leaf_for(
     ensures leaf { IfOk result (λ leaf. tree_at arena.new.trees leaf ≡ leaf_of entry.now) }
     ensures there { IfOk result (λ leaf. leaf < length arena.new.trees) }
     ensures grows { Grows arena.old.trees arena.new.trees }
-    ensures steps { arena.new.steps ≤ arena.old.steps + 2 * is_new entry.now (drop at (row_pairs arena.old.trees row.now)) }
-    ensures least { OnOk result (CountsAtLeast (2 * is_new entry.now (drop at (row_pairs arena.old.trees row.now))) arena.old.steps arena.new.steps) }
-    ensures kept { is_new entry.now (drop at (row_pairs arena.old.trees row.now)) ≡ 0 → result ≡ Ok (slice_index_or row.now at 0) }
+    ensures steps { HashesTwoIfNew row.now at entry.now arena.old arena.new }
+    ensures least { OnOk result (CountsTwoIfNew row.now at entry.now arena.old arena.new) }
+    ensures kept { KeepsLeaf arena.old.trees row.now at entry.now result }
 {
     if is_there(arena, row, at, entry) {
         return Ok(row[at]);
@@ -134,10 +135,10 @@ fn add_leaf(
     requires last { IsTrue (is_sorted text_cmp (row_pairs arena.old.trees old.now)) }
     requires first { HasFirst arena.old.trees entries.now row.old.items }
     requires place { place ≤ length old.now }
-    requires found { IsFoundFrom (row_pairs arena.old.trees old.now) place (drop (length row.old.items) entries.now) }
+    requires found { IsFoundIn arena.old.trees old.now place (length row.old.items) entries.now }
     requires some { length row.old.items < length entries.now }
     ensures more { IfOk result (λ _. length row.new.items ≡ length row.old.items + 1) }
-    ensures added { IfOk result (λ next. AreAdded (row_pairs arena.old.trees old.now) entries.now old.now row.old.items row.new.items arena.new.trees next arena.old.steps arena.new.steps) }
+    ensures added { AddsLeavesOnOk old.now entries.now row.old row.new arena.old arena.new result }
     ensures grows { Grows arena.old.trees arena.new.trees }
 {
     let entry = &entries[row.len()];
@@ -161,11 +162,11 @@ fn add_four(
     requires last { IsTrue (is_sorted text_cmp (row_pairs arena.old.trees old.now)) }
     requires first { HasFirst arena.old.trees entries.now row.old.items }
     requires place { place ≤ length old.now }
-    requires found { IsFoundFrom (row_pairs arena.old.trees old.now) place (drop (length row.old.items) entries.now) }
+    requires found { IsFoundIn arena.old.trees old.now place (length row.old.items) entries.now }
     requires some { length row.old.items + 4 ≤ length entries.now }
-    requires new { IsTrue (is_in_front (slice_index_or entries.now (length row.old.items + 3) ([], [])).0 (drop place (row_pairs arena.old.trees old.now))) }
+    requires new { FourStandInFront arena.old.trees old.now place row.old.items entries.now }
     ensures more { IfOk result (λ _. length row.new.items ≡ length row.old.items + 4) }
-    ensures added { IfOk result (λ next. AreAdded (row_pairs arena.old.trees old.now) entries.now old.now row.old.items row.new.items arena.new.trees next arena.old.steps arena.new.steps) }
+    ensures added { AddsLeavesOnOk old.now entries.now row.old row.new arena.old arena.new result }
     ensures grows { Grows arena.old.trees arena.new.trees }
 {
     let first = row.len();
@@ -200,12 +201,12 @@ fn add_some(
     requires last { IsTrue (is_sorted text_cmp (row_pairs arena.old.trees old.now)) }
     requires first { HasFirst arena.old.trees entries.now row.old.items }
     requires place { place ≤ length old.now }
-    requires found { IsFoundFrom (row_pairs arena.old.trees old.now) place (drop (length row.old.items) entries.now) }
+    requires found { IsFoundIn arena.old.trees old.now place (length row.old.items) entries.now }
     requires some { length row.old.items < end }
     requires end { end ≤ length entries.now }
     ensures more { IfOk result (λ _. length row.old.items < length row.new.items) }
     ensures end { IfOk result (λ _. length row.new.items ≤ end) }
-    ensures added { IfOk result (λ next. AreAdded (row_pairs arena.old.trees old.now) entries.now old.now row.old.items row.new.items arena.new.trees next arena.old.steps arena.new.steps) }
+    ensures added { AddsLeavesOnOk old.now entries.now row.old row.new arena.old arena.new result }
     ensures grows { Grows arena.old.trees arena.new.trees }
 {
     let next = row.len();
@@ -234,18 +235,18 @@ fn add_leaves(
     requires last { IsTrue (is_sorted text_cmp (row_pairs arena.old.trees old.now)) }
     requires first { HasFirst arena.old.trees entries.now row.old.items }
     requires place { place ≤ length old.now }
-    requires found { IsFoundFrom (row_pairs arena.old.trees old.now) place (drop (length row.old.items) entries.now) }
+    requires found { IsFoundIn arena.old.trees old.now place (length row.old.items) entries.now }
     requires from { length row.old.items ≤ end }
     requires end { end ≤ length entries.now }
     ensures first { IfOk result (λ _. HasFirst arena.new.trees entries.now row.new.items) }
     ensures front { IfOk result (λ _. take (length row.old.items) row.new.items ≡ row.old.items) }
     ensures end { IfOk result (λ _. length row.new.items ≡ end) }
     ensures place { IfOk result (λ next. next ≤ length old.now) }
-    ensures found { IfOk result (λ next. IsFoundFrom (row_pairs arena.old.trees old.now) next (drop end entries.now)) }
+    ensures found { IfOk result (λ next. IsFoundIn arena.old.trees old.now next end entries.now) }
     ensures grows { Grows arena.old.trees arena.new.trees }
-    ensures steps { let last = row_pairs arena.old.trees old.now in IfOk result (λ _. arena.new.steps + 2 * count_new last (drop end entries.now) ≤ arena.old.steps + 2 * count_new last (drop (length row.old.items) entries.now)) }
-    ensures least { let last = row_pairs arena.old.trees old.now in OnOk result (CountsAtLeast (2 * count_new last (drop (length row.old.items) entries.now)) arena.old.steps (arena.new.steps + 2 * count_new last (drop end entries.now))) }
-    ensures same { let last = row_pairs arena.old.trees old.now in keys entries.now ≡ keys last → IfOk result (λ _. differing_count row.new.items old.now + count_new last (drop end entries.now) ≤ differing_count row.old.items old.now + count_new last (drop (length row.old.items) entries.now)) }
+    ensures steps { IfOk result (λ _. HashesNewFrom old.now entries.now (length row.old.items) end arena.old arena.new) }
+    ensures least { OnOk result (CountsNewFrom old.now entries.now (length row.old.items) end arena.old arena.new) }
+    ensures same { AddsOthersWhereNew arena.old old.now entries.now row.old row.new end result }
 {
     let mut at = place;
     for i in row.len()..end {
@@ -269,12 +270,12 @@ pub(crate) fn other_leaf(
     requires sorted { IsTrue (is_sorted text_cmp entries.now) }
     requires last { IsTrue (is_sorted text_cmp (row_pairs arena.old.trees old.now)) }
     requires other { IsOneOther index (row_pairs arena.old.trees old.now) entries.now }
-    ensures leaf { IfOk result (λ leaf. tree_at arena.new.trees leaf ≡ leaf_of (slice_index_or entries.now index ([], []))) }
+    ensures leaf { IfOk result (λ leaf. IsLeafAt arena.new.trees entries.now index leaf) }
     ensures there { IfOk result (λ leaf. leaf < length arena.new.trees) }
     ensures grows { Grows arena.old.trees arena.new.trees }
-    ensures steps { arena.new.steps ≤ arena.old.steps + 2 * count_new (row_pairs arena.old.trees old.now) entries.now }
-    ensures least { OnOk result (CountsEachNewLeaf (row_pairs arena.old.trees old.now) entries.now arena.old.steps arena.new.steps) }
-    ensures same { let last = row_pairs arena.old.trees old.now in keys entries.now ≡ keys last → IfOk result (λ leaf. differ_count leaf (slice_index_or old.now index 0) ≤ count_new last entries.now) }
+    ensures steps { HashesNew old.now entries.now arena.old arena.new }
+    ensures least { OnOk result (CountsNew old.now entries.now arena.old arena.new) }
+    ensures same { DiffersIfNew arena.old old.now entries.now index result }
 {
     let entry = &entries[index];
     let found = place_from(arena, old, index, entry.key());
@@ -317,9 +318,9 @@ pub(crate) fn leaf_row(
     ensures leaves { IfOk result (λ row. trees_at arena.new.trees row.items ≡ map leaf_of entries.now) }
     ensures stand { IfOk result (λ row. Stand arena.new.trees row.items) }
     ensures grows { Grows arena.old.trees arena.new.trees }
-    ensures steps { IfOk result (λ row. arena.new.steps ≤ arena.old.steps + 2 * count_new (row_pairs arena.old.trees old.now) entries.now) }
-    ensures least { OnOk result (CountsEachNewLeaf (row_pairs arena.old.trees old.now) entries.now arena.old.steps arena.new.steps) }
-    ensures same { keys entries.now ≡ keys (row_pairs arena.old.trees old.now) → IfOk result (λ row. differing_count row.items old.now ≤ count_new (row_pairs arena.old.trees old.now) entries.now) }
+    ensures steps { IfOk result (λ row. HashesNew old.now entries.now arena.old arena.new) }
+    ensures least { OnOk result (CountsNew old.now entries.now arena.old arena.new) }
+    ensures same { DiffersWhereNew arena.old old.now entries.now result }
     ensures gaps { IfOk result (λ row. DifferIn gaps.now old.now row.items) }
 {
     let mut row = Vec::with_capacity(alloc, entries.len())?;

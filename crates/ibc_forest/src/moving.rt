@@ -1,9 +1,9 @@
 //! Nodes that are moved to another arena, so that the others are given back. Nothing is hashed.
 
-ghost use Rattle.std.specs.Prelude.{◌≡◌, ◌<◌, length, map, IfOk};
-ghost use Rattle.ibc_forest.specs.Forest.{AreSortedHeights, kept_pairs};
+ghost use Rattle.std.specs.Prelude.{◌≡◌, ◌<◌, length, IfOk};
+ghost use Rattle.ibc_forest.specs.Forest.{AreSortedHeights, HaveSamePairs};
 ghost use Rattle.ibc_forest.specs.Levels.{tree_at, trees_at};
-ghost use Rattle.ibc_forest.specs.NodeMoves.{AreMoved, AllStand};
+ghost use Rattle.ibc_forest.specs.NodeMoves.{AreMoved, AllStand, HaveSameTrees};
 ghost use Rattle.ibc_forest.specs.Nodes.{tree_of_node, Grows, IsRight};
 ghost use Rattle.ibc_forest.specs.NodeLevels.{Stand, rows_of};
 
@@ -119,7 +119,7 @@ pub(crate) fn move_rows(
     requires stand { AllStand old.now (rows_of rows.now) }
     requires counted { length moved.old ≡ length old.now }
     requires moved { AreMoved old.now new.old.trees moved.old }
-    ensures same { IfOk result (λ next. map (trees_at new.new.trees) (rows_of next.items) ≡ map (trees_at old.now) (rows_of rows.now)) }
+    ensures same { IfOk result (λ next. HaveSameTrees old.now new.new.trees rows.now next.items) }
     ensures stand { IfOk result (λ next. AllStand new.new.trees (rows_of next.items)) }
     ensures moved { IfOk result (λ _. AreMoved old.now new.new.trees moved.new) }
     ensures grows { Grows new.old.trees new.new.trees }
@@ -144,7 +144,7 @@ pub(crate) fn move_kept(
     requires kept { AreSortedHeights old.now kept.now.items }
     requires counted { length moved.old ≡ length old.now }
     requires moved { AreMoved old.now new.old.trees moved.old }
-    ensures same { IfOk result (λ next. kept_pairs new.new.trees next.items ≡ kept_pairs old.now kept.now.items) }
+    ensures same { IfOk result (λ next. HaveSamePairs old.now new.new.trees kept.now.items next.items) }
     ensures kept { IfOk result (λ next. AreSortedHeights new.new.trees next.items) }
     ensures grows { Grows new.old.trees new.new.trees }
     ensures steps { new.new.steps ≡ new.old.steps }

@@ -1,16 +1,17 @@
 //! The rows of the tree over pairs, from the rows of the tree before.
 
-ghost use Rattle.std.specs.Prelude.{true, false, ◌≡◌, ◌+◌, ◌-◌, ◌*◌, ◌^◌, ◌<◌, ◌≤◌, ℕ, List, length, take, IsTrue, IfOk, IfSome, OnOk, OnErr};
+ghost use Rattle.std.specs.Prelude.{true, false, ◌≡◌, ◌+◌, ◌-◌, ◌*◌, ◌<◌, ◌≤◌, length, IsTrue, IfOk, IfSome, OnOk, OnErr};
 ghost use Rattle.std.specs.FinMap.{is_sorted};
 ghost use Rattle.ibc_ids.specs.Texts.{text_cmp};
-ghost use Rattle.ibc_forest.specs.Counts.{CountsAtLeast, CountsEachNewLeaf};
-ghost use Rattle.ibc_forest.specs.Leaves.{row_pairs, count_new, keys, differing_count};
-ghost use Rattle.ibc_forest.specs.Gaps.{DifferIn, IsOneOther};
+ghost use Rattle.ibc_forest.specs.Counts.{CountsAtLeast};
+ghost use Rattle.ibc_forest.specs.Leaves.{tree_pairs, DiffersAtFew, DiffersAtMany};
+ghost use Rattle.ibc_forest.specs.Gaps.{DifferIn, IsOneOther, DifferAtOne, IsFrontOf};
 ghost use Rattle.ibc_forest.specs.Nodes.{Grows};
-ghost use Rattle.ibc_forest.specs.NodeLevels.{Stand, IsPyramid, rows_of, first_row};
+ghost use Rattle.ibc_forest.specs.NodeLevels.{Stand, IsPyramid, rows_of, leaves_of, IsAsLong};
 ghost use Rattle.ibc_forest.specs.Forest.{IsWorking, IsLast};
 ghost use Rattle.ibc_forest.specs.Replacements.{AreReplaced, come_count};
 ghost use Rattle.ibc_merkle.specs.Tree.{Pairs};
+ghost use Rattle.ibc_forest.specs.Hashes.{CountsNew, HashesFew, HashesPathsOnOk, HashesAbove};
 
 use crate::arena::Arena;
 use crate::gap::Gap;
@@ -22,8 +23,8 @@ use std::alloc::{AllocError, Global};
 
 // Whether it takes fewer texts to put the other leaves into the tree than it has leaves.
 fn are_few(rows: &[Vec<usize>], row: &[usize]) -> bool
-    ensures few { result ≡ true → (length row.now ≡ length (first_row (rows_of rows.now))) × (differing_count row.now (first_row (rows_of rows.now)) * (length rows.now - 1) < length row.now) }
-    ensures many { result ≡ false → length row.now ≡ length (first_row (rows_of rows.now)) → length row.now ≤ differing_count row.now (first_row (rows_of rows.now)) * (length rows.now - 1) }
+    ensures few { result ≡ true → DiffersAtFew rows.now row.now }
+    ensures many { result ≡ false → DiffersAtMany rows.now row.now }
 {
     let old = first_of(rows);
     if row.len() != old.len() {
@@ -42,11 +43,11 @@ fn changed(
 ) -> Result<Vec<Vec<usize>>, AllocError>
     requires levels { IsPyramid arena.old.trees (rows_of rows.now) }
     requires stand { Stand arena.old.trees row.now }
-    requires counted { length row.now ≡ length (first_row (rows_of rows.now)) }
+    requires counted { IsAsLong rows.now row.now }
     ensures levels { IfOk result (λ next. IsPyramid arena.new.trees (rows_of next.items)) }
-    ensures row { IfOk result (λ next. first_row (rows_of next.items) ≡ row.now) }
+    ensures row { IfOk result (λ next. leaves_of next.items ≡ row.now) }
     ensures grows { Grows arena.old.trees arena.new.trees }
-    ensures steps { IfOk result (λ _. arena.new.steps ≤ arena.old.steps + differing_count row.now (first_row (rows_of rows.now)) * (length rows.now - 1)) }
+    ensures steps { IfOk result (λ _. HashesAbove rows.now row.now arena.old arena.new) }
     ensures least { OnOk result (CountsAtLeast 0 arena.old.steps arena.new.steps) }
 {
     let mut next = copied(alloc, rows)?;
@@ -58,7 +59,7 @@ fn changed(
 // How many first numbers are the same in rows that differ in gaps, the first of which has so many.
 #[tactic(auto, using(crate::proofs::KnownRows::front_first, crate::proofs::KnownRows::front_all))]
 fn front_of(gaps: &[Gap], all: usize) -> usize
-    ensures { (old row : List ℕ) → length old ≡ all → DifferIn gaps.now old row → (result ≤ length row) × (take result row ≡ take result old) }
+    ensures { IsFrontOf gaps.now all result }
 {
     if gaps.is_empty() {
         return all;
@@ -78,13 +79,13 @@ fn rows_over(
     requires last { IsLast arena.old.trees (rows_of rows.now) }
     requires stand { Stand arena.old.trees row.items }
     requires some { 0 < length row.items }
-    requires gaps { DifferIn gaps.now (first_row (rows_of rows.now)) row.items }
+    requires gaps { DifferIn gaps.now (leaves_of rows.now) row.items }
     ensures levels { IfOk result (λ next. IsPyramid arena.new.trees (rows_of next.items)) }
-    ensures row { IfOk result (λ next. first_row (rows_of next.items) ≡ row.items) }
+    ensures row { IfOk result (λ next. leaves_of next.items ≡ row.items) }
     ensures grows { Grows arena.old.trees arena.new.trees }
     ensures steps { IfOk result (λ _. arena.new.steps + 1 ≤ arena.old.steps + length row.items) }
     ensures least { OnOk result (CountsAtLeast 0 arena.old.steps arena.new.steps) }
-    ensures few { length row.items ≡ length (first_row (rows_of rows.now)) → IfOk result (λ _. arena.new.steps ≤ arena.old.steps + differing_count row.items (first_row (rows_of rows.now)) * (length rows.now - 1)) }
+    ensures few { IsAsLong rows.now row.items → IfOk result (λ _. HashesAbove rows.now row.items arena.old arena.new) }
 {
     if are_few(rows, row.as_slice()) {
         return changed(alloc, arena, rows, row.as_slice());
@@ -106,14 +107,14 @@ fn next_rows(
     requires last { IsLast arena.old.trees (rows_of rows.now) }
     requires some { 0 < length entries.now }
     requires sorted { IsTrue (is_sorted text_cmp entries.now) }
-    requires sorted_last { IsTrue (is_sorted text_cmp (row_pairs arena.old.trees (first_row (rows_of rows.now)))) }
-    requires gaps { DifferIn gaps.now (row_pairs arena.old.trees (first_row (rows_of rows.now))) entries.now }
+    requires sorted_last { IsTrue (is_sorted text_cmp (tree_pairs arena.old.trees rows.now)) }
+    requires gaps { DifferIn gaps.now (tree_pairs arena.old.trees rows.now) entries.now }
     ensures working { IfOk result (λ next. IsWorking arena.new.trees (rows_of next.items)) }
-    ensures pairs { IfOk result (λ next. row_pairs arena.new.trees (first_row (rows_of next.items)) ≡ entries.now) }
+    ensures pairs { IfOk result (λ next. tree_pairs arena.new.trees next.items ≡ entries.now) }
     ensures grows { Grows arena.old.trees arena.new.trees }
-    ensures steps { let new = count_new (row_pairs arena.old.trees (first_row (rows_of rows.now))) entries.now in IfOk result (λ _. arena.new.steps + 1 ≤ arena.old.steps + 2 * new + length entries.now) }
-    ensures least { OnOk result (CountsEachNewLeaf (row_pairs arena.old.trees (first_row (rows_of rows.now))) entries.now arena.old.steps arena.new.steps) }
-    ensures same { let last = row_pairs arena.old.trees (first_row (rows_of rows.now)) in keys entries.now ≡ keys last → (log : ℕ) → length entries.now ≤ 2 ^ log → IfOk result (λ _. arena.new.steps ≤ arena.old.steps + count_new last entries.now * (2 + log)) }
+    ensures steps { IfOk result (λ _. HashesFew rows.now entries.now arena.old arena.new) }
+    ensures least { OnOk result (CountsNew (leaves_of rows.now) entries.now arena.old arena.new) }
+    ensures same { HashesPathsOnOk rows.now entries.now arena.old arena.new result }
 {
     let row = leaf_row(alloc, arena, first_of(rows), entries, gaps)?;
     rows_over(alloc, arena, rows, row, gaps)
@@ -121,7 +122,7 @@ fn next_rows(
 
 // The place of the one pair that came in place of another, where pairs differ in one such gap alone.
 fn one_place(gaps: &[Gap]) -> Option<usize>
-    ensures { IfSome result (λ index. (last pairs : Pairs) → DifferIn gaps.now last pairs → IsOneOther index last pairs) }
+    ensures { IfSome result (λ index. DifferAtOne gaps.now index) }
 {
     if gaps.len() != 1 {
         return None;
@@ -144,14 +145,14 @@ fn put_other(
 ) -> Result<(), AllocError>
     requires last { IsLast arena.old.trees (rows_of rows.old) }
     requires sorted { IsTrue (is_sorted text_cmp entries.now) }
-    requires sorted_last { IsTrue (is_sorted text_cmp (row_pairs arena.old.trees (first_row (rows_of rows.old)))) }
-    requires other { IsOneOther index (row_pairs arena.old.trees (first_row (rows_of rows.old))) entries.now }
+    requires sorted_last { IsTrue (is_sorted text_cmp (tree_pairs arena.old.trees rows.old)) }
+    requires other { IsOneOther index (tree_pairs arena.old.trees rows.old) entries.now }
     ensures working { IfOk result (λ _. IsWorking arena.new.trees (rows_of rows.new)) }
-    ensures pairs { IfOk result (λ _. row_pairs arena.new.trees (first_row (rows_of rows.new)) ≡ entries.now) }
+    ensures pairs { IfOk result (λ _. tree_pairs arena.new.trees rows.new ≡ entries.now) }
     ensures grows { Grows arena.old.trees arena.new.trees }
-    ensures steps { let new = count_new (row_pairs arena.old.trees (first_row (rows_of rows.old))) entries.now in IfOk result (λ _. arena.new.steps + 1 ≤ arena.old.steps + 2 * new + length entries.now) }
-    ensures least { OnOk result (CountsEachNewLeaf (row_pairs arena.old.trees (first_row (rows_of rows.old))) entries.now arena.old.steps arena.new.steps) }
-    ensures same { let last = row_pairs arena.old.trees (first_row (rows_of rows.old)) in keys entries.now ≡ keys last → (log : ℕ) → length entries.now ≤ 2 ^ log → IfOk result (λ _. arena.new.steps ≤ arena.old.steps + count_new last entries.now * (2 + log)) }
+    ensures steps { IfOk result (λ _. HashesFew rows.old entries.now arena.old arena.new) }
+    ensures least { OnOk result (CountsNew (leaves_of rows.old) entries.now arena.old arena.new) }
+    ensures same { HashesPathsOnOk rows.old entries.now arena.old arena.new result }
     ensures err { OnErr result (rows.new ≡ rows.old) }
 {
     let leaf = other_leaf(arena, first_of(rows), entries, index)?;
@@ -174,7 +175,7 @@ fn are_empty(gaps: &[Gap]) -> bool
 // The most places of a tree for each of which as many texts as there are rows above it make fewer than it has leaves.
 #[tactic(auto, using(crate::proofs::OtherLeaves::most_texts))]
 fn most_places(rows: &[Vec<usize>]) -> usize
-    ensures { result * (length rows.now - 1) ≤ length (first_row (rows_of rows.now)) - 1 }
+    ensures { result * (length rows.now - 1) ≤ length (leaves_of rows.now) - 1 }
 {
     let above = rows.len().saturating_sub(1);
     if above == 0 {
@@ -211,16 +212,16 @@ fn put_replaced(
     requires last { IsLast arena.old.trees (rows_of rows.old) }
     requires some { 0 < length entries.now }
     requires sorted { IsTrue (is_sorted text_cmp entries.now) }
-    requires sorted_last { IsTrue (is_sorted text_cmp (row_pairs arena.old.trees (first_row (rows_of rows.old)))) }
-    requires gaps { DifferIn gaps.now (row_pairs arena.old.trees (first_row (rows_of rows.old))) entries.now }
+    requires sorted_last { IsTrue (is_sorted text_cmp (tree_pairs arena.old.trees rows.old)) }
+    requires gaps { DifferIn gaps.now (tree_pairs arena.old.trees rows.old) entries.now }
     requires replaced { AreReplaced gaps.now }
-    requires few { come_count gaps.now * (length rows.old - 1) ≤ length (first_row (rows_of rows.old)) - 1 }
+    requires few { come_count gaps.now * (length rows.old - 1) ≤ length (leaves_of rows.old) - 1 }
     ensures working { IfOk result (λ _. IsWorking arena.new.trees (rows_of rows.new)) }
-    ensures pairs { IfOk result (λ _. row_pairs arena.new.trees (first_row (rows_of rows.new)) ≡ entries.now) }
+    ensures pairs { IfOk result (λ _. tree_pairs arena.new.trees rows.new ≡ entries.now) }
     ensures grows { Grows arena.old.trees arena.new.trees }
-    ensures steps { let new = count_new (row_pairs arena.old.trees (first_row (rows_of rows.old))) entries.now in IfOk result (λ _. arena.new.steps + 1 ≤ arena.old.steps + 2 * new + length entries.now) }
-    ensures least { OnOk result (CountsEachNewLeaf (row_pairs arena.old.trees (first_row (rows_of rows.old))) entries.now arena.old.steps arena.new.steps) }
-    ensures same { let last = row_pairs arena.old.trees (first_row (rows_of rows.old)) in keys entries.now ≡ keys last → (log : ℕ) → length entries.now ≤ 2 ^ log → IfOk result (λ _. arena.new.steps ≤ arena.old.steps + count_new last entries.now * (2 + log)) }
+    ensures steps { IfOk result (λ _. HashesFew rows.old entries.now arena.old arena.new) }
+    ensures least { OnOk result (CountsNew (leaves_of rows.old) entries.now arena.old arena.new) }
+    ensures same { HashesPathsOnOk rows.old entries.now arena.old arena.new result }
     ensures err { OnErr result (rows_of rows.new ≡ rows_of rows.old) }
 {
     let others = replacements(alloc, arena, first_of(rows), entries, gaps)?;
@@ -240,14 +241,14 @@ pub(crate) fn turn_rows(
     requires last { IsLast arena.old.trees (rows_of rows.old.items) }
     requires some { 0 < length entries.now }
     requires sorted { IsTrue (is_sorted text_cmp entries.now) }
-    requires sorted_last { IsTrue (is_sorted text_cmp (row_pairs arena.old.trees (first_row (rows_of rows.old.items)))) }
-    requires gaps { DifferIn gaps.now (row_pairs arena.old.trees (first_row (rows_of rows.old.items))) entries.now }
+    requires sorted_last { IsTrue (is_sorted text_cmp (tree_pairs arena.old.trees rows.old.items)) }
+    requires gaps { DifferIn gaps.now (tree_pairs arena.old.trees rows.old.items) entries.now }
     ensures working { IfOk result (λ _. IsWorking arena.new.trees (rows_of rows.new.items)) }
-    ensures pairs { IfOk result (λ _. row_pairs arena.new.trees (first_row (rows_of rows.new.items)) ≡ entries.now) }
+    ensures pairs { IfOk result (λ _. tree_pairs arena.new.trees rows.new.items ≡ entries.now) }
     ensures grows { Grows arena.old.trees arena.new.trees }
-    ensures steps { let new = count_new (row_pairs arena.old.trees (first_row (rows_of rows.old.items))) entries.now in IfOk result (λ _. arena.new.steps + 1 ≤ arena.old.steps + 2 * new + length entries.now) }
-    ensures least { OnOk result (CountsEachNewLeaf (row_pairs arena.old.trees (first_row (rows_of rows.old.items))) entries.now arena.old.steps arena.new.steps) }
-    ensures same { let last = row_pairs arena.old.trees (first_row (rows_of rows.old.items)) in keys entries.now ≡ keys last → (log : ℕ) → length entries.now ≤ 2 ^ log → IfOk result (λ _. arena.new.steps ≤ arena.old.steps + count_new last entries.now * (2 + log)) }
+    ensures steps { IfOk result (λ _. HashesFew rows.old.items entries.now arena.old arena.new) }
+    ensures least { OnOk result (CountsNew (leaves_of rows.old.items) entries.now arena.old arena.new) }
+    ensures same { HashesPathsOnOk rows.old.items entries.now arena.old arena.new result }
     ensures err { OnErr result (rows_of rows.new.items ≡ rows_of rows.old.items) }
 {
     if are_empty(gaps) {

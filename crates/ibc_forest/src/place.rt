@@ -1,13 +1,11 @@
 //! The place of a key in a tree.
 
 ghost use Rattle.std.specs.Prelude.{◌≡◌, ◌<◌, ◌≤◌, length, IsTrue, IfOk, IfErr};
-ghost use Rattle.std.specs.List.{HoldsAt};
-ghost use Rattle.std.specs.List.Sorted.{IsPartitionPoint};
 ghost use Rattle.std.specs.FinMap.{is_sorted};
-ghost use Rattle.std.specs.declared.cmp.Ordering.TheVariants.{Less, Equal, Greater};
 ghost use Rattle.ibc_ids.specs.Texts.{text_cmp};
 ghost use Rattle.ibc_merkle.specs.PairPlaces.{key_at};
 ghost use Rattle.ibc_forest.specs.Heights.{pairs_of, IsTreeOver};
+ghost use Rattle.ibc_ids.specs.Maps.{IsKeyAt, IsGapFor};
 
 use crate::node::Below;
 use crate::nodes::Nodes;
@@ -29,9 +27,9 @@ pub(crate) fn place_in(nodes: &Nodes, root: usize, count: usize, key: &[u8]) -> 
     requires over { IsTreeOver nodes.now root count }
     requires sorted { IsTrue (is_sorted text_cmp (pairs_of nodes.now root)) }
     ensures found { IfOk result (λ index. index < count) }
-    ensures here { IfOk result (HoldsAt (λ entry. text_cmp entry.0 key.now ≡ Equal) (pairs_of nodes.now root)) }
+    ensures here { IfOk result (IsKeyAt text_cmp key.now (pairs_of nodes.now root)) }
     ensures within { IfErr result (λ index. index ≤ count) }
-    ensures gap { IfErr result (IsPartitionPoint (λ entry. text_cmp entry.0 key.now ≡ Less) (λ entry. text_cmp entry.0 key.now ≡ Greater) (pairs_of nodes.now root)) }
+    ensures gap { IfErr result (IsGapFor text_cmp key.now (pairs_of nodes.now root)) }
 {
     match nodes.below(root) {
         Below::Record(_) => match compare_first(nodes, root, key) {

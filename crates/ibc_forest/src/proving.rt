@@ -1,10 +1,10 @@
 //! The writing of proofs from the nodes of a tree (ICS 23, "CreateMembershipProof" and "CreateNonMembershipProof").
 
-ghost use Rattle.std.specs.Prelude.{◌≡◌, ◌<◌, ◌≤◌, Some, slice_get, IsTrue, IfOk};
+ghost use Rattle.std.specs.Prelude.{◌≡◌, ◌<◌, ◌≤◌, Some, IsTrue, IfOk};
 ghost use Rattle.std.specs.FinMap.{is_sorted};
 ghost use Rattle.ibc_ids.specs.Texts.{text_cmp};
-ghost use Rattle.ibc_merkle.specs.PairPlaces.{pair_before};
-ghost use Rattle.ibc_merkle.specs.Written.{presence_of, written_proof};
+ghost use Rattle.ibc_merkle.specs.PlacedProofs.{own_proof, left_proof};
+ghost use Rattle.ibc_merkle.specs.Written.{written_proof};
 ghost use Rattle.ibc_forest.specs.Heights.{pairs_of, IsTreeOver};
 
 use crate::descent::{entry_at, operations_from};
@@ -44,7 +44,7 @@ fn presence_at(
     requires over { IsTreeOver nodes.now root count }
     requires sorted { IsTrue (is_sorted text_cmp (pairs_of nodes.now root)) }
     requires there { index < count }
-    ensures { IfOk result (λ presence. presence_of (pairs_of nodes.now root) (slice_get (pairs_of nodes.now root) index) ≡ Some presence) }
+    ensures { IfOk result (λ presence. own_proof (pairs_of nodes.now root) index ≡ Some presence) }
 {
     let entry = entry_at(nodes, root, count, index);
     let operations = operations_from(alloc, nodes, root, count, index, 0)?;
@@ -69,8 +69,8 @@ fn absence_at(
     requires sorted { IsTrue (is_sorted text_cmp (pairs_of nodes.now root)) }
     requires within { index ≤ count }
     ensures key { IfOk result (λ absence. absence.key ≡ key.now) }
-    ensures left { IfOk result (λ absence. absence.left ≡ presence_of (pairs_of nodes.now root) (pair_before (pairs_of nodes.now root) index)) }
-    ensures right { IfOk result (λ absence. absence.right ≡ presence_of (pairs_of nodes.now root) (slice_get (pairs_of nodes.now root) index)) }
+    ensures left { IfOk result (λ absence. absence.left ≡ left_proof (pairs_of nodes.now root) index) }
+    ensures right { IfOk result (λ absence. absence.right ≡ own_proof (pairs_of nodes.now root) index) }
 {
     Ok(Absence {
         key: Bytes::copy_of(alloc, key)?,
@@ -90,7 +90,7 @@ fn left_neighbour(
     requires over { IsTreeOver nodes.now root count }
     requires sorted { IsTrue (is_sorted text_cmp (pairs_of nodes.now root)) }
     requires within { index ≤ count }
-    ensures { IfOk result (λ presence. presence ≡ presence_of (pairs_of nodes.now root) (pair_before (pairs_of nodes.now root) index)) }
+    ensures { IfOk result (λ presence. presence ≡ left_proof (pairs_of nodes.now root) index) }
 {
     match index.checked_sub(1) {
         Some(before) => Ok(Some(presence_at(alloc, nodes, root, count, before)?)),
@@ -108,7 +108,7 @@ fn right_neighbour(
 ) -> Result<Option<Presence>, AllocError>
     requires over { IsTreeOver nodes.now root count }
     requires sorted { IsTrue (is_sorted text_cmp (pairs_of nodes.now root)) }
-    ensures { IfOk result (λ presence. presence ≡ presence_of (pairs_of nodes.now root) (slice_get (pairs_of nodes.now root) index)) }
+    ensures { IfOk result (λ presence. presence ≡ own_proof (pairs_of nodes.now root) index) }
 {
     if index < count {
         Ok(Some(presence_at(alloc, nodes, root, count, index)?))

@@ -1,16 +1,16 @@
 //! Other leaves at several places of a tree: which they are, and how they are put.
 
-ghost use Rattle.std.specs.Prelude.{◌≡◌, List, ◌+◌, ◌-◌, ◌*◌, ◌^◌, ◌<◌, ◌≤◌, length, drop, map, slice_set, slice_index_or, IsTrue, IfOk, OnOk, OnErr};
+ghost use Rattle.std.specs.Prelude.{◌≡◌, ◌+◌, ◌^◌, ◌<◌, ◌≤◌, length, drop, slice_index_or, IsTrue, IfOk, OnOk, OnErr};
 ghost use Rattle.std.specs.FinMap.{is_sorted};
 ghost use Rattle.ibc_ids.specs.Texts.{text_cmp};
-ghost use Rattle.ibc_merkle.specs.Tree.{Tree};
-ghost use Rattle.ibc_forest.specs.Counts.{CountsAtLeast, CountsEachNewLeaf};
-ghost use Rattle.ibc_forest.specs.Levels.{leaf_of, trees_at};
-ghost use Rattle.ibc_forest.specs.Leaves.{row_pairs, AreLeaves, count_new, keys, differ_count};
-ghost use Rattle.ibc_forest.specs.Gaps.{DifferIn, IsFoundFrom};
+ghost use Rattle.ibc_forest.specs.Counts.{CountsAtLeast};
+ghost use Rattle.ibc_forest.specs.Leaves.{row_pairs, AreLeaves};
+ghost use Rattle.ibc_forest.specs.Gaps.{DifferIn, IsFoundFrom, IsFoundIn};
 ghost use Rattle.ibc_forest.specs.Nodes.{Grows};
-ghost use Rattle.ibc_forest.specs.NodeLevels.{Stand, IsPyramid, rows_of, first_row};
-ghost use Rattle.ibc_forest.specs.Replacements.{AreReplaced, come_count, with_leaves, FitIn, HasReplaced, nodes_at, put_back, AreLong};
+ghost use Rattle.ibc_forest.specs.NodeLevels.{Stand, IsPyramid, rows_of, leaves_of, PutsLeaf};
+ghost use Rattle.ibc_forest.specs.Replacements.{AreReplaced, come_count, with_leaves, FitIn, HasReplaced, nodes_at, put_back, AreLong, HasOwnLeaf, AddsOther, StayFit, AddsOneIfOther, LeadTo, rows_before};
+ghost use Rattle.ibc_forest.specs.Hashes.{HashesNew, CountsNew, HashesNewFrom, CountsNewFrom, HashesPaths};
+ghost use Rattle.ibc_forest.specs.SameKeys.{ReplacesNewFrom, ReplacesNew};
 
 use crate::arena::Arena;
 use crate::ascent::{climb, put_path};
@@ -28,10 +28,10 @@ fn add_other(
     leaf: usize,
 ) -> Result<(), AllocError>
     requires place { place < length row.now }
-    requires there { slice_index_or (with_leaves row.now others.old.items) place 0 ≡ slice_index_or row.now place 0 }
-    ensures leaves { OnOk result (with_leaves row.now others.new.items ≡ slice_set (with_leaves row.now others.old.items) place leaf) }
-    ensures fit { OnOk result ((trees : List Tree) → leaf < length trees → FitIn (length row.now) trees others.old.items → FitIn (length row.now) trees others.new.items) }
-    ensures count { OnOk result (length others.new.items ≡ length others.old.items + differ_count leaf (slice_index_or row.now place 0)) }
+    requires there { HasOwnLeaf row.now others.old.items place }
+    ensures leaves { OnOk result (AddsOther row.now place leaf others.old.items others.new.items) }
+    ensures fit { OnOk result (StayFit row.now leaf others.old.items others.new.items) }
+    ensures count { OnOk result (AddsOneIfOther row.now place leaf others.old.items others.new.items) }
 {
     if row[place] == leaf {
         return Ok(());
@@ -63,12 +63,12 @@ fn add_others(
     requires there { end ≤ length old.now }
     ensures replaced { IfOk result (λ _. HasReplaced arena.new.trees entries.now old.now others.new.items end) }
     ensures place { IfOk result (λ next. next ≤ length old.now) }
-    ensures found { IfOk result (λ next. IsFoundFrom (row_pairs arena.old.trees old.now) next (drop end entries.now)) }
+    ensures found { IfOk result (λ next. IsFoundIn arena.old.trees old.now next end entries.now) }
     ensures grows { Grows arena.old.trees arena.new.trees }
-    ensures steps { let last = row_pairs arena.old.trees old.now in IfOk result (λ _. arena.new.steps + 2 * count_new last (drop end entries.now) ≤ arena.old.steps + 2 * count_new last (drop from entries.now)) }
-    ensures least { let last = row_pairs arena.old.trees old.now in OnOk result (CountsAtLeast (2 * count_new last (drop from entries.now)) arena.old.steps (arena.new.steps + 2 * count_new last (drop end entries.now))) }
+    ensures steps { IfOk result (λ _. HashesNewFrom old.now entries.now from end arena.old arena.new) }
+    ensures least { OnOk result (CountsNewFrom old.now entries.now from end arena.old arena.new) }
     ensures few { OnOk result (length others.new.items + from ≤ length others.old.items + end) }
-    ensures same { let last = row_pairs arena.old.trees old.now in keys entries.now ≡ keys last → OnOk result (length others.new.items + count_new last (drop end entries.now) ≤ length others.old.items + count_new last (drop from entries.now)) }
+    ensures same { ReplacesNewFrom arena.old old.now entries.now from end others.old others.new result }
 {
     let mut at = place;
     for i in from..end {
@@ -107,14 +107,14 @@ pub(crate) fn replacements(
     requires last { IsTrue (is_sorted text_cmp (row_pairs arena.old.trees old.now)) }
     requires gaps { DifferIn gaps.now (row_pairs arena.old.trees old.now) entries.now }
     requires replaced { AreReplaced gaps.now }
-    ensures leaves { IfOk result (λ others. trees_at arena.new.trees (with_leaves old.now others.items) ≡ map leaf_of entries.now) }
+    ensures leaves { IfOk result (λ others. LeadTo arena.new.trees old.now others.items entries.now) }
     ensures stand { IfOk result (λ others. Stand arena.new.trees (with_leaves old.now others.items)) }
     ensures fit { IfOk result (λ others. FitIn (length old.now) arena.new.trees others.items) }
     ensures grows { Grows arena.old.trees arena.new.trees }
-    ensures steps { IfOk result (λ _. arena.new.steps ≤ arena.old.steps + 2 * count_new (row_pairs arena.old.trees old.now) entries.now) }
-    ensures least { OnOk result (CountsEachNewLeaf (row_pairs arena.old.trees old.now) entries.now arena.old.steps arena.new.steps) }
+    ensures steps { IfOk result (λ _. HashesNew old.now entries.now arena.old arena.new) }
+    ensures least { OnOk result (CountsNew old.now entries.now arena.old arena.new) }
     ensures few { IfOk result (λ others. length others.items ≤ come_count gaps.now) }
-    ensures same { keys entries.now ≡ keys (row_pairs arena.old.trees old.now) → IfOk result (λ others. length others.items ≤ count_new (row_pairs arena.old.trees old.now) entries.now) }
+    ensures same { ReplacesNew arena.old old.now entries.now result }
 {
     let mut others = Vec::new(alloc);
     let mut from = 0;
@@ -168,15 +168,15 @@ fn put_noted(
     other: Replacement,
 ) -> Result<(), AllocError>
     requires levels { IsPyramid arena.old.trees (rows_of rows.old) }
-    requires place { other.place < length (first_row (rows_of rows.old)) }
+    requires place { other.place < length (leaves_of rows.old) }
     requires leaf { other.leaf < length arena.old.trees }
     requires long { AreLong (length rows.old) noted.old.items }
     ensures levels { OnOk result (IsPyramid arena.new.trees (rows_of rows.new)) }
-    ensures row { OnOk result (first_row (rows_of rows.new) ≡ slice_set (first_row (rows_of rows.old)) other.place other.leaf) }
+    ensures row { OnOk result (PutsLeaf rows.old rows.new other.place other.leaf) }
     ensures grows { Grows arena.old.trees arena.new.trees }
     ensures steps { OnOk result (arena.new.steps + 1 ≤ arena.old.steps + length rows.old) }
     ensures least { OnOk result (CountsAtLeast 0 arena.old.steps arena.new.steps) }
-    ensures noted { put_back noted.new.items (rows_of rows.new) ≡ put_back noted.old.items (rows_of rows.old) }
+    ensures noted { rows_before noted.new.items rows.new ≡ rows_before noted.old.items rows.old }
     ensures long { AreLong (length rows.old) noted.new.items }
 {
     noted.reserve(1)?;
@@ -197,14 +197,14 @@ fn put_each(
     noted: &mut Vec<NotedPath>,
 ) -> Result<(), AllocError>
     requires levels { IsPyramid arena.old.trees (rows_of rows.old) }
-    requires fit { FitIn (length (first_row (rows_of rows.old))) arena.old.trees others.now }
+    requires fit { FitIn (length (leaves_of rows.old)) arena.old.trees others.now }
     requires long { AreLong (length rows.old) noted.old.items }
     ensures levels { OnOk result (IsPyramid arena.new.trees (rows_of rows.new)) }
-    ensures row { OnOk result (first_row (rows_of rows.new) ≡ with_leaves (first_row (rows_of rows.old)) others.now) }
+    ensures row { OnOk result (leaves_of rows.new ≡ with_leaves (leaves_of rows.old) others.now) }
     ensures grows { Grows arena.old.trees arena.new.trees }
-    ensures steps { OnOk result (arena.new.steps ≤ arena.old.steps + length others.now * (length rows.old - 1)) }
+    ensures steps { OnOk result (HashesPaths others.now rows.old arena.old arena.new) }
     ensures least { OnOk result (CountsAtLeast 0 arena.old.steps arena.new.steps) }
-    ensures noted { put_back noted.new.items (rows_of rows.new) ≡ put_back noted.old.items (rows_of rows.old) }
+    ensures noted { rows_before noted.new.items rows.new ≡ rows_before noted.old.items rows.old }
     ensures long { AreLong (length rows.old) noted.new.items }
 {
     let mut path = Vec::new(alloc);
@@ -235,11 +235,11 @@ pub(crate) fn put_others(
     others: &[Replacement],
 ) -> Result<(), AllocError>
     requires levels { IsPyramid arena.old.trees (rows_of rows.old) }
-    requires fit { FitIn (length (first_row (rows_of rows.old))) arena.old.trees others.now }
+    requires fit { FitIn (length (leaves_of rows.old)) arena.old.trees others.now }
     ensures levels { OnOk result (IsPyramid arena.new.trees (rows_of rows.new)) }
-    ensures row { OnOk result (first_row (rows_of rows.new) ≡ with_leaves (first_row (rows_of rows.old)) others.now) }
+    ensures row { OnOk result (leaves_of rows.new ≡ with_leaves (leaves_of rows.old) others.now) }
     ensures grows { Grows arena.old.trees arena.new.trees }
-    ensures steps { OnOk result (arena.new.steps ≤ arena.old.steps + length others.now * (length rows.old - 1)) }
+    ensures steps { OnOk result (HashesPaths others.now rows.old arena.old arena.new) }
     ensures least { OnOk result (CountsAtLeast 0 arena.old.steps arena.new.steps) }
     ensures err { OnErr result (rows_of rows.new ≡ rows_of rows.old) }
 {

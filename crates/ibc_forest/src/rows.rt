@@ -1,11 +1,13 @@
 //! Rows of nodes: the levels of a tree.
 
-ghost use Rattle.std.specs.Prelude.{◌≡◌, ℕ, ◌+◌, ◌*◌, ◌/◌, ◌<◌, ◌≤◌, ◌++◌, length, take, drop, IfOk, OnOk};
+ghost use Rattle.std.specs.Prelude.{◌≡◌, ◌+◌, ◌*◌, ◌/◌, ◌<◌, ◌≤◌, ◌++◌, length, take, IfOk, OnOk};
 ghost use Rattle.ibc_forest.specs.Counts.{CountsAtLeast};
-ghost use Rattle.ibc_forest.specs.Levels.{pair_up, trees_at};
+ghost use Rattle.ibc_forest.specs.Levels.{BeginsAbove, odd_rest};
 ghost use Rattle.ibc_forest.specs.Nodes.{Grows};
 ghost use Rattle.ibc_forest.specs.NodeLevels.{AreFirstAbove, Stand};
-ghost use Rattle.ibc_forest.specs.Gathered.{FrontStays, PairedBut, WaitBehind};
+ghost use Rattle.ibc_forest.specs.Gathered.{FrontStays, PairedBut, WaitingStaysBehind};
+ghost use Rattle.ibc_forest.specs.Parents.{IsLevelAbove};
+ghost use Rattle.ibc_forest.specs.Hashes.{HashesOneOrWaits, HashesOneForEach};
 
 use crate::arena::Arena;
 use crate::joining::make_waiting;
@@ -14,7 +16,7 @@ use std::alloc::{AllocError, Global};
 
 // Adds the last node of a row of an odd number of nodes.
 fn add_odd(above: &mut Vec<usize>, row: &[usize]) -> Result<(), AllocError>
-    ensures { OnOk result (above.new.items ≡ above.old.items ++ drop (2 * (length row.now / 2)) row.now) }
+    ensures { OnOk result (above.new.items ≡ above.old.items ++ odd_rest row.now) }
 {
     if row.len() % 2 == 0 {
         return Ok(());
@@ -42,9 +44,9 @@ fn add_pair(
     ensures room { OnOk result (length waiting.new < 4) }
     ensures counted { OnOk result (length above.new.items ≡ length above.old.items + 1) }
     ensures front { OnOk result (FrontStays waiting.old above.old.items above.new.items) }
-    ensures behind { OnOk result ((first : ℕ) → first ≤ place → WaitBehind first waiting.old → WaitBehind first waiting.new) }
+    ensures behind { OnOk result (WaitingStaysBehind place waiting.old waiting.new) }
     ensures grows { Grows arena.old.trees arena.new.trees }
-    ensures steps { OnOk result (arena.new.steps + length waiting.new ≤ arena.old.steps + length waiting.old + 1) }
+    ensures steps { OnOk result (HashesOneOrWaits arena.old arena.new waiting.old waiting.new) }
     ensures least { OnOk result (CountsAtLeast 0 arena.old.steps arena.new.steps) }
 {
     let (left, right) = (row[2 * place], row[2 * place + 1]);
@@ -69,7 +71,7 @@ fn add_pairs(arena: &mut Arena, above: &mut Vec<usize>, row: &[usize]) -> Result
     ensures front { OnOk result (take (length above.old.items) above.new.items ≡ above.old.items) }
     ensures half { OnOk result (length above.new.items ≡ length row.now / 2) }
     ensures grows { Grows arena.old.trees arena.new.trees }
-    ensures steps { OnOk result (arena.new.steps + length above.old.items ≤ arena.old.steps + length above.new.items) }
+    ensures steps { OnOk result (HashesOneForEach above.old.items above.new.items arena.old arena.new) }
     ensures least { OnOk result (CountsAtLeast 0 arena.old.steps arena.new.steps) }
 {
     let pairs = row.len() / 2;
@@ -91,11 +93,11 @@ pub(crate) fn row_above(
     requires row { Stand arena.old.trees row.now }
     requires stand { Stand arena.old.trees known.now }
     requires few { 2 * length known.now ≤ length row.now }
-    requires known { trees_at arena.old.trees known.now ≡ pair_up (take (2 * length known.now) (trees_at arena.old.trees row.now)) }
-    ensures level { IfOk result (λ above. trees_at arena.new.trees above.items ≡ pair_up (trees_at arena.old.trees row.now)) }
+    requires known { BeginsAbove arena.old.trees row.now known.now }
+    ensures level { IfOk result (λ above. IsLevelAbove arena.old arena.new row.now above.items) }
     ensures stand { IfOk result (λ above. Stand arena.new.trees above.items) }
     ensures grows { Grows arena.old.trees arena.new.trees }
-    ensures steps { IfOk result (λ above. arena.new.steps + length above.items ≤ arena.old.steps + length row.now) }
+    ensures steps { IfOk result (λ above. HashesOneForEach above.items row.now arena.old arena.new) }
     ensures least { OnOk result (CountsAtLeast 0 arena.old.steps arena.new.steps) }
     ensures half { IfOk result (λ above. length above.items + length above.items ≤ length row.now + 1) }
     ensures front { IfOk result (λ above. take (length known.now) above.items ≡ known.now) }

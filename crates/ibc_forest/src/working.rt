@@ -1,11 +1,11 @@
 //! The rows of a tree, and what a commit changes in them.
 
-ghost use Rattle.std.specs.Prelude.{◌≡◌, ◌+◌, ◌-◌, ◌*◌, ◌<◌, ◌≤◌, [], length, take, drop, slice_set, slice_index_or, IfOk, OnOk, OnErr};
+ghost use Rattle.std.specs.Prelude.{◌≡◌, ◌+◌, ◌<◌, ◌≤◌, length, take, drop, IfOk, OnOk, OnErr};
 ghost use Rattle.ibc_forest.specs.Counts.{CountsAtLeast};
-ghost use Rattle.ibc_forest.specs.Levels.{tree_over, tree_at, trees_at};
-ghost use Rattle.ibc_forest.specs.Leaves.{differ_count, differing_count};
+ghost use Rattle.ibc_forest.specs.Leaves.{differing_count};
 ghost use Rattle.ibc_forest.specs.Nodes.{Grows};
-ghost use Rattle.ibc_forest.specs.NodeLevels.{Stand, IsPyramid, AreKnown, HasLevelsOver, rows_of, first_row};
+ghost use Rattle.ibc_forest.specs.NodeLevels.{Stand, IsPyramid, AreKnown, HasLevelsOver, rows_of, leaves_of, IsAsLong, IsRootOver, PutsLeaf};
+ghost use Rattle.ibc_forest.specs.Hashes.{HashesAbove, HashesPathIfOther};
 
 use crate::arena::Arena;
 use crate::ascent::{climb, put_path};
@@ -15,7 +15,7 @@ use std::alloc::{AllocError, Global};
 // The root of a tree, by its rows.
 pub(crate) fn root_of(arena: &Arena, rows: &[Vec<usize>]) -> usize
     requires { IsPyramid arena.now.trees (rows_of rows.now) }
-    ensures over { tree_at arena.now.trees result ≡ tree_over (trees_at arena.now.trees (first_row (rows_of rows.now))) }
+    ensures over { IsRootOver arena.now.trees rows.now result }
     ensures there { result < length arena.now.trees }
 {
     rows[rows.len() - 1][0]
@@ -52,7 +52,7 @@ fn add_levels(
     requires some { 0 < length row.items }
     requires before { AreKnown arena.old.trees (rows_of before.now) }
     requires there { front ≤ length row.items }
-    requires front { take front row.items ≡ take front (first_row (rows_of before.now)) }
+    requires front { take front row.items ≡ take front (leaves_of before.now) }
     ensures levels { IfOk result (λ _. HasLevelsOver arena.new.trees rows.old.items row.items rows.new.items) }
     ensures grows { Grows arena.old.trees arena.new.trees }
     ensures steps { IfOk result (λ _. arena.new.steps + 1 ≤ arena.old.steps + length row.items) }
@@ -82,9 +82,9 @@ pub(crate) fn raised(
     requires some { 0 < length row.items }
     requires before { AreKnown arena.old.trees (rows_of before.now) }
     requires there { front ≤ length row.items }
-    requires front { take front row.items ≡ take front (first_row (rows_of before.now)) }
+    requires front { take front row.items ≡ take front (leaves_of before.now) }
     ensures levels { IfOk result (λ rows. IsPyramid arena.new.trees (rows_of rows.items)) }
-    ensures row { IfOk result (λ rows. first_row (rows_of rows.items) ≡ row.items) }
+    ensures row { IfOk result (λ rows. leaves_of rows.items ≡ row.items) }
     ensures grows { Grows arena.old.trees arena.new.trees }
     ensures steps { IfOk result (λ _. arena.new.steps + 1 ≤ arena.old.steps + length row.items) }
     ensures least { OnOk result (CountsAtLeast 0 arena.old.steps arena.new.steps) }
@@ -104,12 +104,12 @@ pub(crate) fn put_leaf(
     node: usize,
 ) -> Result<(), AllocError>
     requires levels { IsPyramid arena.old.trees (rows_of rows.old) }
-    requires place { index < length (first_row (rows_of rows.old)) }
+    requires place { index < length (leaves_of rows.old) }
     requires node { node < length arena.old.trees }
     ensures levels { IfOk result (λ _. IsPyramid arena.new.trees (rows_of rows.new)) }
-    ensures row { IfOk result (λ _. first_row (rows_of rows.new) ≡ slice_set (first_row (rows_of rows.old)) index node) }
+    ensures row { IfOk result (λ _. PutsLeaf rows.old rows.new index node) }
     ensures grows { Grows arena.old.trees arena.new.trees }
-    ensures steps { arena.new.steps ≤ arena.old.steps + differ_count node (slice_index_or (first_row (rows_of rows.old)) index 0) * (length rows.old - 1) }
+    ensures steps { HashesPathIfOther rows.old index node arena.old arena.new }
     ensures least { OnOk result (CountsAtLeast 0 arena.old.steps arena.new.steps) }
     ensures err { OnErr result (rows.new ≡ rows.old) }
 {
@@ -124,7 +124,7 @@ pub(crate) fn put_leaf(
 
 // The first of some rows; of none it is empty.
 pub(crate) fn first_of(rows: &[Vec<usize>]) -> &[usize]
-    ensures { result.now ≡ first_row (rows_of rows.now) }
+    ensures { result.now ≡ leaves_of rows.now }
 {
     match rows.first() {
         Some(row) => row.as_slice(),
@@ -141,11 +141,11 @@ pub(crate) fn put_leaves(
 ) -> Result<(), AllocError>
     requires levels { IsPyramid arena.old.trees (rows_of rows.old) }
     requires stand { Stand arena.old.trees row.now }
-    requires counted { length row.now ≡ length (first_row (rows_of rows.old)) }
+    requires counted { IsAsLong rows.old row.now }
     ensures levels { IfOk result (λ _. IsPyramid arena.new.trees (rows_of rows.new)) }
-    ensures row { IfOk result (λ _. first_row (rows_of rows.new) ≡ row.now) }
+    ensures row { IfOk result (λ _. leaves_of rows.new ≡ row.now) }
     ensures grows { Grows arena.old.trees arena.new.trees }
-    ensures steps { IfOk result (λ _. arena.new.steps ≤ arena.old.steps + differing_count row.now (first_row (rows_of rows.old)) * (length rows.old - 1)) }
+    ensures steps { IfOk result (λ _. HashesAbove rows.old row.now arena.old arena.new) }
     ensures least { OnOk result (CountsAtLeast 0 arena.old.steps arena.new.steps) }
 {
     for i in 0..row.len() {

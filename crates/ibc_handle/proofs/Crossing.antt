@@ -28,7 +28,6 @@ use Rattle.ibc_handle.specs.contracts.handle_value.HandleValue as Held
 use Rattle.ibc_handle.specs.contracts.ledgers.WorldLedgers as Ledgers
 use Rattle.ibc_handle.specs.contracts.ledgers.WorldLedgers.TheInside as InLedgers
 use Rattle.ibc_world_core.specs.contracts.holdings.Audit as Audit
-use mathlib.Core.List.{[], ◌∷◌}
 
 entry_send : IsSend StampedEntry.the_row
 entry_send = declared_send StampedEntry.the_type (entry.the_send, (search (sendable, crosses) depth 20, tt))

@@ -1,5 +1,5 @@
 -- Ledgers of one world are still of one world where one is taken out, and where one of the same world is added.
-use Rattle.std.proofs.Common.{◌≡◌, ◌⊎◌, inl, inr, ℕ, zero, suc, List, [], ◌∷◌, ◌++◌, Some, refl, sym, ap, ◌∙◌, subst, take, drop, slice_get, None}
+use Rattle.std.proofs.Common.{◌≡◌, ◌⊎◌, inl, inr, ℕ, zero, suc, List, [], ◌∷◌, ◌++◌, Some, refl, sym, ap, ◌∙◌, subst, take, drop, slice_get}
 use Rattle.ibc_ledger.specs.LedgerModel.{LedgerModel}
 use Rattle.ibc_world_core.specs.WorldAudits.{AreOfOneWorld}
 use Rattle.ibc_handle.specs.LedgersModel.{Joins, HaveOneTable}

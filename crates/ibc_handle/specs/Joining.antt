@@ -1,5 +1,5 @@
 -- How a ledger comes back to the others of its world.
-use Rattle.std.specs.Prelude.{◌≡◌, ◌≢◌, ◌++◌, [], ◌∷◌, Option, Some, None, Result, Ok, Err, ⊤}
+use Rattle.std.specs.Prelude.{◌≡◌, ◌≢◌, ◌⊎◌, ◌++◌, [], ◌∷◌, Option, Some, None, Result, Ok, Err, ⊤}
 use Rattle.ibc_handle.specs.LedgersModel.{LedgersModel, Joins}
 use Rattle.ibc_handle.specs.declared.handle_value.HandleValue.{HandleValue}
 use Rattle.ibc_handle.specs.declared.handle_value.HandleValue.TheVariants as held
@@ -18,6 +18,15 @@ MemberJoinsIfSameNumber all _ = ⊤
 -- with this ledger behind the others
 abbrev pub with_member : LedgersModel → WorldLedger → LedgersModel
 with_member all member = record all { ledgers = all.ledgers ++ member.ledger ∷ [] }
+
+-- the member is of their world, and is behind the others
+abbrev pub JoinsMember : LedgersModel → WorldLedger → LedgersModel → Type 0
+JoinsMember old member new = (member.number ≡ old.number) × (new ≡ with_member old member)
+
+-- the member is handed back, since it is of another world or memory ran out
+abbrev pub IsHandedBack : LedgersModel → WorldLedger → NotJoined × WorldLedger → Type 0
+IsHandedBack old member back =
+    (back.1 ≡ member) × (((back.0 ≡ OtherWorld) × (member.number ≢ old.number)) ⊎ (back.0 ≡ NoMemory))
 
 -- the ledger was moved to the others, or it stays for this reason
 abbrev pub IsMemberJoined : LedgersModel → WorldLedger → LedgersModel → Option HandleValue → Result ⊤ NotJoined → Type 0

@@ -1,15 +1,14 @@
 //! Ledgers of one world.
 
-ghost use Rattle.std.specs.Prelude.{◌≡◌, ◌≢◌, ◌⊎◌, ◌↔◌, ◌++◌, ◌∷◌, [], Err, false, length, IfOk, IfErr, MatchOption, OnOk, OnErr, IsOkUnless};
+ghost use Rattle.std.specs.Prelude.{◌≡◌, ◌⊎◌, ◌↔◌, Err, false, length, IfOk, IfErr, OnOk, OnErr, IsOkUnless};
 ghost use Rattle.ibc_ids.specs.declared.refusal.Refusal.TheVariants.{BadMessage, NoMemory};
 ghost use Rattle.ibc_machine.specs.chain.Genesis.{genesis_state, is_allowed};
 ghost use Rattle.ibc_refinement.specs.World.{AreNew};
 ghost use Rattle.ibc_world_core.specs.WorldModel.{ledgers_alone};
 ghost use Rattle.ibc_world_core.specs.WorldAudits.{IsAudit, is_whole};
 ghost use Rattle.ibc_world_core.specs.EveryAudit.{AreLawful};
-ghost use Rattle.ibc_handle.specs.LedgersModel.{AreStill, Joins};
-ghost use Rattle.ibc_handle.specs.Joining.{JoinsIfSameNumber, with_member};
-ghost use Rattle.ibc_handle.specs.declared.ledgers.NotJoined.TheVariants.{OtherWorld, NoMemory as NoRoom};
+ghost use Rattle.ibc_handle.specs.LedgersModel.{AreStill, Joins, IsFirstTaken, with_ledger};
+ghost use Rattle.ibc_handle.specs.Joining.{JoinsIfSameNumber, JoinsMember, IsHandedBack};
 
 use crate::WorldLedger;
 use ibc_ids::Refusal;
@@ -92,7 +91,7 @@ impl WorldLedgers {
 
     /// Takes the first ledger out, or none where there is none.
     pub fn take_first(&mut self) -> Option<Ledger>
-        ensures { MatchOption result ((self.old.ledgers ≡ []) × (self.new ≡ self.old)) (λ ledger. (self.old.ledgers ≡ ledger ∷ self.new.ledgers) × (self.new.number ≡ self.old.number)) }
+        ensures { IsFirstTaken self.old result self.new }
     {
         if self.ledgers.is_empty() {
             return None;
@@ -103,7 +102,7 @@ impl WorldLedgers {
     /// Adds a ledger, which is of the same world. Where a growth is refused it is handed back, and nothing has changed.
     pub fn add(&mut self, ledger: Ledger) -> Result<(), Ledger>
         requires { Joins ledger self.old.ledgers }
-        ensures ok { OnOk result (self.new ≡ record self.old { ledgers = self.old.ledgers ++ ledger ∷ [] }) }
+        ensures ok { OnOk result (self.new ≡ with_ledger self.old ledger) }
         ensures err { OnErr result (self.new ≡ self.old) }
         ensures back { IsOkUnless result ledger }
     {
@@ -118,9 +117,9 @@ impl WorldLedgers {
     /// `NoMemory`, and nothing has changed.
     pub fn join(&mut self, member: WorldLedger) -> Result<(), (NotJoined, WorldLedger)>
         requires { JoinsIfSameNumber self.old member }
-        ensures ok { OnOk result ((member.number ≡ self.old.number) × (self.new ≡ with_member self.old member)) }
+        ensures ok { OnOk result (JoinsMember self.old member self.new) }
         ensures err { OnErr result (self.new ≡ self.old) }
-        ensures back { IfErr result (λ e. (e.1 ≡ member) × (((e.0 ≡ OtherWorld) × (member.number ≢ self.old.number)) ⊎ (e.0 ≡ NoRoom))) }
+        ensures back { IfErr result (λ e. IsHandedBack self.old member e) }
     {
         if member.number != self.number {
             return Err((NotJoined::OtherWorld, member));

@@ -1,5 +1,7 @@
 -- The path of a key (ICS 24, "Path-space"), and the identifiers that a chain gives.
-use Rattle.std.specs.Prelude.{◌≡◌, ℕ, codes, List, [], ◌∷◌, ◌++◌, ◌^◌, ◌&&◌, Bool, true, false, nat_lt, IsTrue, Result, Ok, Err}
+use Rattle.std.specs.Prelude.{◌≡◌, ◌≢◌, ◌<◌, ℕ, codes, List, [], ◌∷◌, ◌++◌, ◌^◌, ◌&&◌, Bool, true, false, nat_lt, IsTrue, Result, Ok, Err}
+use Rattle.std.specs.Prelude.{Option, MatchOption, String, string_bytes, IsOkUnless}
+use Rattle.std.specs.declared.alloc.Global.{Global}
 use Rattle.ibc_ids.specs.Names.{is_client, is_connection, is_channel, is_port}
 use Rattle.std.specs.Fmt.{decimal}
 use Rattle.ibc_ids.specs.Texts.{Text}
@@ -104,3 +106,29 @@ IsKeyOf texts (Ok k) = HasParts texts k
 IsKeyOf texts (Err BadName) = (k : Key) → ¬ HasParts texts k
 IsKeyOf texts (Err NoMemory) = (k : Key) × HasParts texts k
 IsKeyOf texts (Err _) = ⊥
+
+-- ---- what is made and read of paths
+
+-- a text is the path of a channel's record below its kind
+abbrev pub IsChannelPath : Text → Text → Text → String Global → Type 0
+IsChannelPath kind port channel text = string_bytes text ≡ kind ++ channel_path port channel
+
+-- a text is the path of a packet's record below its kind
+abbrev pub IsSequencePath : Text → Text → Text → ℕ → String Global → Type 0
+IsSequencePath kind port channel n text = string_bytes text ≡ kind ++ sequence_path port channel n
+
+-- the path of a key is read, unless memory is missing
+abbrev pub IsReadIfPath : {X : Type 0} → Result X Refusal → Text → Type 0
+IsReadIfPath result text = (k : Key) → IsTrue (is_key k) → path k ≡ text → IsOkUnless result NoMemory
+
+-- the parts of a packet's record below its kind, whose number may be any text
+abbrev pub sequence_texts : Text → Text → Text → Text → List Text
+sequence_texts kind port channel sequence = kind ∷ channel_parts port channel (codes "sequences" ∷ sequence ∷ [])
+
+-- the texts are a port's and a channel's names
+abbrev pub AreNamesOf : Text → Text → Text → Text → Type 0
+AreNamesOf port channel first second = (first ≡ port) × (second ≡ channel) × IsTrue (is_port port && is_channel channel)
+
+-- the sequence that the text is, in decimal, or none where it is none
+abbrev pub IsSequenceOf : Text → Option ℕ → Type 0
+IsSequenceOf text result = MatchOption result ((n : ℕ) → n < 2 ^ 64 → text ≢ decimal n) (λ n. text ≡ decimal n)

@@ -1,7 +1,7 @@
 //! What a denomination tells, and its hops.
 
-ghost use Rattle.std.specs.Prelude.{◌≡◌, ◌↔◌, ◌≤◌, ◌<◌, ◌++◌, ◌∷◌, ◌≢◌, ℕ, List, false, length, IfOk, IsErrOf, IsOkUnless, MatchOption};
-ghost use Rattle.ibc_ids.specs.Names.{is_base_denom, hop, came_over};
+ghost use Rattle.std.specs.Prelude.{◌≡◌, ◌↔◌, ◌≤◌, ◌++◌, length, IfOk, IsErrOf, IsOkUnless};
+ghost use Rattle.ibc_ids.specs.Names.{is_base_denom, hop, IsTooLong, IsStripped, IsBehindHop, IsBehindSlash};
 ghost use Rattle.ibc_ids.specs.declared.refusal.Refusal.TheVariants.{NoMemory};
 
 use crate::forms::is_word;
@@ -24,8 +24,8 @@ impl Name<DenomKind> {
     #[tactic(auto, using(crate::proofs::Hops::hop_length, crate::proofs::Hops::hop_parts, crate::proofs::Hops::longer_is_one))]
     pub fn hop(&self, alloc: Global, port: &PortId, channel: &ChannelId) -> Result<Denom, Refusal>
         ensures ok { IfOk result (λ longer. longer ≡ hop port.now channel.now ++ self.now) }
-        ensures too_large { IsErrOf result Refusal.TooLarge ↔ (256 < length (hop port.now channel.now ++ self.now)) }
-        ensures memory { length (hop port.now channel.now ++ self.now) ≤ 256 → IsOkUnless result Refusal.NoMemory }
+        ensures too_large { IsErrOf result Refusal.TooLarge ↔ IsTooLong port.now channel.now self.now }
+        ensures memory { length (hop port.now channel.now ++ self.now) ≤ 256 → IsOkUnless result NoMemory }
     {
         let port = port.as_str();
         let channel = channel.as_str();
@@ -47,7 +47,7 @@ impl Name<DenomKind> {
         port: &PortId,
         channel: &ChannelId,
     ) -> Result<Option<Denom>, Refusal>
-        ensures ok { IfOk result (λ rest. MatchOption rest (came_over port.now channel.now self.now ≡ false) (λ denom. self.now ≡ hop port.now channel.now ++ denom)) }
+        ensures ok { IfOk result (λ rest. IsStripped port.now channel.now self.now rest) }
         ensures memory { IsOkUnless result NoMemory }
     {
         match behind_hop(self.as_str(), port.as_str(), channel.as_str()) {
@@ -60,14 +60,14 @@ impl Name<DenomKind> {
 /// What stands behind the channel's hop, where the denomination begins with it.
 #[tactic(auto, using(crate::proofs::Hops::hop_parts, crate::proofs::Hops::not_over))]
 fn behind_hop<'a>(denom: &'a str, port: &str, channel: &str) -> Option<&'a str>
-    ensures { MatchOption result (came_over port.now channel.now denom.now ≡ false) (λ rest. denom.now ≡ hop port.now channel.now ++ rest.now) }
+    ensures { IsBehindHop port.now channel.now denom.now result }
 {
     behind(behind(denom, port)?, channel)
 }
 
 /// What stands behind the front and a slash, where the text begins with them.
 fn behind<'a>(text: &'a str, front: &str) -> Option<&'a str>
-    ensures { MatchOption result ((rest : List ℕ) → text.now ≢ front.now ++ 47 ∷ rest) (λ rest. text.now ≡ front.now ++ 47 ∷ rest.now) }
+    ensures { IsBehindSlash front.now text.now result }
 {
     text.strip_prefix(front)?.strip_prefix('/')
 }

@@ -1,8 +1,8 @@
 //! Which texts have the form of a name (ICS 24, "Identifiers"; ICS 20 for denominations).
 
-ghost use Rattle.std.specs.Prelude.{◌≡◌, ◌<◌, length, [], ◌∷◌, MatchOption};
+ghost use Rattle.std.specs.Prelude.{◌≡◌, MatchOption};
 ghost use Rattle.std.specs.List.{list_all, position, slice_split};
-ghost use Rattle.ibc_ids.specs.Names.{is_made_of, is_letter_or_digit, is_identifier_byte, is_plain_byte, is_version_byte, is_version, is_slash, are_hops_and_base, is_denom};
+ghost use Rattle.ibc_ids.specs.Names.{is_made_of, is_letter_or_digit, is_identifier_byte, is_plain_byte, is_version_byte, is_version, is_slash, are_hops_and_base, is_denom, HasNoSlash, IsPartedShorter};
 
 fn is_letter_or_digit(byte: u8) -> bool
     ensures { result ≡ is_letter_or_digit byte }
@@ -93,7 +93,7 @@ fn first_slash(text: &[u8]) -> Option<usize>
 /// What stands before the first slash, and what stands behind it.
 #[tactic(auto, using(crate::proofs::Splits::one_part, crate::proofs::Splits::part_and_rest))]
 fn split_at_slash(text: &[u8]) -> Option<(&[u8], &[u8])>
-    ensures { MatchOption result (slice_split is_slash text.now ≡ text.now ∷ []) (λ parts. (slice_split is_slash text.now ≡ parts.0.now ∷ slice_split is_slash parts.1.now) × (length parts.1.now < length text.now)) }
+    ensures { MatchOption result (HasNoSlash text.now) (λ p. IsPartedShorter text.now p.0.now p.1.now) }
 {
     match first_slash(text) {
         None => None,

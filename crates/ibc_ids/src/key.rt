@@ -1,7 +1,7 @@
 //! The keys of the records that a chain proves to others.
-ghost use Rattle.std.specs.Prelude.{◌≡◌, ◌++◌, ◌&&◌, ◌<◌, ◌^◌, string_bytes, IfOk, IsTrue, IsOkUnless};
+ghost use Rattle.std.specs.Prelude.{◌≡◌, ◌&&◌, ◌<◌, ◌^◌, string_bytes, IfOk, IsTrue, IsOkUnless};
 ghost use Rattle.ibc_ids.specs.Names.{is_client, is_connection, is_port, is_channel};
-ghost use Rattle.ibc_ids.specs.Paths.{path, channel_path, sequence_path, DifferentPaths};
+ghost use Rattle.ibc_ids.specs.Paths.{path, DifferentPaths, IsChannelPath, IsSequencePath};
 ghost use Rattle.ibc_ids.specs.declared.key.Key.TheVariants as key;
 ghost use Rattle.ibc_ids.specs.declared.refusal.Refusal.TheVariants.{NoMemory};
 
@@ -101,7 +101,7 @@ pub fn channel_path(
     port: &PortId,
     channel: &ChannelId,
 ) -> Result<String, Refusal>
-    ensures ok { IfOk result (λ text. string_bytes text ≡ kind.now ++ channel_path port.now channel.now) }
+    ensures ok { IfOk result (λ text. IsChannelPath kind.now port.now channel.now text) }
     ensures named { IsTrue (is_port port.now && is_channel channel.now) }
     ensures memory { IsOkUnless result NoMemory }
 {
@@ -125,7 +125,7 @@ pub fn sequence_path(
     channel: &ChannelId,
     sequence: u64,
 ) -> Result<String, Refusal>
-    ensures ok { IfOk result (λ text. string_bytes text ≡ kind.now ++ sequence_path port.now channel.now sequence) }
+    ensures ok { IfOk result (λ text. IsSequencePath kind.now port.now channel.now sequence text) }
     ensures named { IsTrue (is_port port.now && is_channel channel.now) }
     ensures fits { sequence < 2 ^ 64 }
     ensures memory { IsOkUnless result NoMemory }

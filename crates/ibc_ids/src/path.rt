@@ -1,10 +1,9 @@
 //! Which key has a path (ICS 24, "Path-space").
 
-ghost use Rattle.std.specs.Prelude.{◌≡◌, ◌≢◌, ◌↔◌, ◌⊎◌, ◌<◌, ◌^◌, ◌&&◌, ◌==◌, ℕ, nat_lt, codes, [], ◌∷◌, length, slice_index, IsTrue, IfOk, IfErr, IsErrOf, IsOkUnless, MatchOption};
+ghost use Rattle.std.specs.Prelude.{◌≡◌, ◌≢◌, ◌↔◌, ◌⊎◌, ◌&&◌, ◌==◌, nat_lt, codes, [], ◌∷◌, length, slice_index, IsTrue, IfOk, IfErr, IsErrOf, MatchOption};
 ghost use Rattle.std.specs.List.{slice_split};
-ghost use Rattle.std.specs.Fmt.{decimal};
-ghost use Rattle.ibc_ids.specs.Names.{is_slash, is_port, is_channel};
-ghost use Rattle.ibc_ids.specs.Paths.{path, is_key, channel_parts, IsNameRefusal, IsKeyOf};
+ghost use Rattle.ibc_ids.specs.Names.{is_slash, is_port, is_channel, HasNoSlash, IsParted};
+ghost use Rattle.ibc_ids.specs.Paths.{path, is_key, channel_parts, IsNameRefusal, IsKeyOf, IsReadIfPath, sequence_texts, AreNamesOf, IsSequenceOf};
 ghost use Rattle.ibc_ids.specs.declared.key.Key.{Key};
 ghost use Rattle.ibc_ids.specs.declared.refusal.Refusal.TheVariants.{BadName, NoMemory};
 
@@ -16,7 +15,7 @@ impl Key {
     pub fn parse(alloc: Global, text: &str) -> Result<Key, Refusal>
         ensures ok { IfOk result (λ key. (path key ≡ text.now) × IsTrue (is_key key)) }
         ensures bad { IsErrOf result BadName ↔ ((key : Key) → IsTrue (is_key key) → path key ≢ text.now) }
-        ensures memory { (key : Key) → IsTrue (is_key key) → path key ≡ text.now → IsOkUnless result NoMemory }
+        ensures memory { IsReadIfPath result text.now }
         ensures errors { IfErr result (λ e. (e ≡ BadName) ⊎ (e ≡ NoMemory)) }
     {
         let Some((kind, rest)) = split_at_slash(text) else {
@@ -37,7 +36,7 @@ impl Key {
 
 /// What stands before the first slash, and what stands behind it.
 fn split_at_slash(text: &str) -> Option<(&str, &str)>
-    ensures { MatchOption result (slice_split is_slash text.now ≡ text.now ∷ []) (λ parts. slice_split is_slash text.now ≡ parts.0.now ∷ slice_split is_slash parts.1.now) }
+    ensures { MatchOption result (HasNoSlash text.now) (λ p. IsParted text.now p.0.now p.1.now) }
 {
     text.split_once('/')
 }
@@ -123,7 +122,7 @@ fn record_at_sequence(
     channel: &str,
     sequence: &str,
 ) -> Result<Key, Refusal>
-    ensures { IsKeyOf (kind.now ∷ channel_parts port.now channel.now (codes "sequences" ∷ sequence.now ∷ [])) result }
+    ensures { IsKeyOf (sequence_texts kind.now port.now channel.now sequence.now) result }
 {
     let Some(sequence) = sequence_of(sequence) else {
         return Err(Refusal::BadName);
@@ -148,7 +147,7 @@ fn record_at_sequence(
 /// The port and the channel of a path. Both texts are tested before memory is taken, so `NoMemory` never stands for a
 /// bad one. Refused: `BadName` exactly where one hasn't its form; `NoMemory`.
 fn names_in_path(alloc: Global, port: &str, channel: &str) -> Result<(PortId, ChannelId), Refusal>
-    ensures ok { IfOk result (λ names. (names.0 ≡ port.now) × (names.1 ≡ channel.now) × IsTrue (is_port port.now && is_channel channel.now)) }
+    ensures ok { IfOk result (λ names. AreNamesOf port.now channel.now names.0 names.1) }
     ensures refused { IfErr result (IsNameRefusal (is_port port.now && is_channel channel.now)) }
 {
     if !ChannelKind::has_form(channel.as_bytes()) {
@@ -161,7 +160,7 @@ fn names_in_path(alloc: Global, port: &str, channel: &str) -> Result<(PortId, Ch
 
 /// The sequence that the text writes in decimal digits without leading zeros.
 fn sequence_of(text: &str) -> Option<u64>
-    ensures { MatchOption result ((n : ℕ) → n < 2 ^ 64 → text.now ≢ decimal n) (λ n. text.now ≡ decimal n) }
+    ensures { IsSequenceOf text.now result }
 {
     if text.starts_with('+') {
         return None;

@@ -1,5 +1,5 @@
 -- An entry is put behind those of a journal.
-use Rattle.std.proofs.Common.{◌≡◌, ℕ, ◌+◌, pos, List, [], ◌∷◌, ◌++◌, length, false, None, Ok, Err, Result, OnOk, Less, refl, sym, ap, subst, ◌∙◌, arith}
+use Rattle.std.proofs.Common.{◌≡◌, ℕ, ◌+◌, pos, List, [], ◌∷◌, ◌++◌, length, None, Ok, Err, Result, OnOk, Less, refl, ap, subst, ◌∙◌, arith}
 use Rattle.std.specs.Prelude.{IsTrue}
 use Rattle.sqlite.specs.declared.types.Value.{Value}
 use Rattle.sqlite.specs.declared.types.Value.TheVariants.{Null, Int, Blob}
@@ -18,7 +18,7 @@ use Rattle.sqlite.specs.Listing.{understood}
 use Rattle.sqlite.specs.Effect.{Database}
 use Rattle.sqlite.specs.State.{State, HasCleanDisk, mode_of, Executes, CommitsBy}
 use Rattle.sqlite.proofs.Callers.{statement_of, runs_as, one_step}
-use Rattle.ibc_journal.specs.Tables.{entries, journal_schema, JournalItem, row_at, rows_from, HasRows, IsJournal}
+use Rattle.ibc_journal.specs.Tables.{entries, journal_schema, JournalItem, row_at, rows_from, IsJournal}
 use Rattle.ibc_journal.specs.Crashes.{GoesOn, PutsBehind, LeavesOutside}
 use Rattle.ibc_journal.proofs.Statements.{insert_text, insert_terms, insert_is, insert_plain}
 use Rattle.ibc_journal.proofs.Parts.{cast_int, cast_null, went, same_value, below}

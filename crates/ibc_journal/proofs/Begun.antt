@@ -23,7 +23,7 @@ use Rattle.sqlite.specs.Listing.{understood}
 use Rattle.sqlite.specs.Effect.{Database}
 use Rattle.sqlite.specs.State.{State, mode_of, Writes, Executes, CommitsBy}
 use Rattle.sqlite.proofs.Callers.{IsPlain, command_of, statement_of, runs_as, one_step}
-use Rattle.ibc_journal.specs.Tables.{meta, entries, no_schema, meta_schema, journal_schema, beginning_row, HasRows, IsJournal}
+use Rattle.ibc_journal.specs.Tables.{meta, entries, no_schema, meta_schema, journal_schema, beginning_row, IsJournal}
 use Rattle.ibc_journal.specs.Crashes.{GoesOn}
 use Rattle.ibc_journal.proofs.Statements.{meta_text, meta_is, meta_plain, entries_text, entries_is, entries_plain, beginning_text, beginning_terms, beginning_is, beginning_plain}
 use Rattle.ibc_journal.proofs.Parts.{cast_int, cast_null, went, same_value}

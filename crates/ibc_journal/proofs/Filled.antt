@@ -1,7 +1,6 @@
 -- The tables are made and the beginning is put in, one call behind another.
 use Rattle.std.proofs.Common.{◌≡◌, List, ℕ, [], sym, ap, subst, ◌∙◌, arith}
 use Rattle.std.specs.Prelude.{IsTrue}
-use Rattle.sqlite.specs.Tree.{Trees}
 use Rattle.sqlite.specs.State.{State, HasCleanDisk, Survives}
 use Rattle.sqlite.proofs.StateLemmas.{survives_then}
 use Rattle.ibc_journal.specs.Tables.{no_schema, meta_schema, journal_schema, HasRows, IsJournal}

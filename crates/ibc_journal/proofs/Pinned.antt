@@ -1,5 +1,5 @@
 -- The last digest tells all entries.
-use Rattle.std.proofs.Common.{◌≡◌, ◌≢◌, ◌⊎◌, inl, inr, ℕ, ◌<◌, ◌^◌, bytes_eq, List, [], ◌∷◌, ◌++◌, length, take, drop, true, false, refl, sym, ap, append_assoc, ◌∙◌, arith}
+use Rattle.std.proofs.Common.{◌≡◌, ◌≢◌, ◌⊎◌, inl, inr, ℕ, bytes_eq, List, [], ◌∷◌, ◌++◌, length, take, drop, true, false, refl, sym, ap, append_assoc, ◌∙◌, arith}
 use Rattle.std.specs.Int.{w32, w64, to_be_bytes, from_be_bytes}
 use Rattle.std.specs.List.{AllByRecursion}
 use Rattle.std.proofs.lemmas.Bool.{cases_Bool, false≢true}

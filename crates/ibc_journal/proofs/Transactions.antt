@@ -1,7 +1,5 @@
 -- How a transaction begins and is committed, and that nothing else commits what was done inside it.
-use Rattle.std.proofs.Common.{◌≡◌, ◌⊎◌, inl, inr, ℕ, List, [], Bool, true, false, None, Some, Ok, Err, Result, OnErr, OnOk, refl, sym, ap, subst, subst₂, append-nil, ◌∙◌}
-use Rattle.std.proofs.lemmas.Bool.{false≢true}
-use Rattle.std.specs.Prelude.{IsTrue}
+use Rattle.std.proofs.Common.{◌≡◌, inl, inr, ℕ, List, [], false, None, Ok, Err, Result, OnErr, OnOk, refl, sym, ap, subst, subst₂, append-nil, ◌∙◌}
 use Rattle.sqlite.specs.Order.{Row}
 use Rattle.sqlite.specs.Schema.{Schema}
 use Rattle.sqlite.specs.Command.{Command}
@@ -9,7 +7,6 @@ use Rattle.sqlite.specs.Command.TheVariants.{Begin, Commit, Release}
 use Rattle.sqlite.specs.Tree.{Trees}
 use Rattle.sqlite.specs.declared.error.Error.{Error}
 use Rattle.sqlite.specs.Listing.{understood}
-use Rattle.sqlite.specs.Effect.{Database}
 use Rattle.sqlite.specs.State.{State, Executes, CommitsBy, MayCommit}
 use Rattle.sqlite.proofs.InsideLemmas.{fails_whole, unchanged_keeps}
 use Rattle.sqlite.proofs.Callers.{IsPlain, command_of, statement_of, runs_as}

@@ -1,8 +1,7 @@
 -- Several entries in one transaction, and the transaction as a whole.
-use Rattle.std.proofs.Common.{◌≡◌, ◌⊎◌, inl, inr, ℕ, ◌+◌, ◌<◌, ◌≤◌, List, [], ◌∷◌, ◌++◌, length, get_or, take, map, true, false, refl, sym, ap, subst, append-nil, append_assoc, length-append, ◌∙◌, arith}
+use Rattle.std.proofs.Common.{◌≡◌, inl, inr, ℕ, ◌+◌, ◌<◌, ◌≤◌, List, [], ◌∷◌, ◌++◌, length, get_or, take, map, true, false, refl, sym, ap, subst, append-nil, append_assoc, length-append, ◌∙◌, arith}
 use Rattle.std.proofs.lemmas.Bool.{cases_Bool, false≢true}
 use Rattle.std.proofs.lemmas.List.{take_more, take_all, map-append, length-take-le, length-map}
-use Rattle.std.specs.Prelude.{IsTrue}
 use Rattle.sqlite.specs.Tree.{Trees}
 use Rattle.sqlite.specs.View.{doubt}
 use Rattle.sqlite.specs.State.{State, HasCleanDisk, IsUnchanged, Survives}

@@ -6,3 +6,5 @@ pub mod Faults
 pub mod Crashes
 pub mod Shown
 pub mod Restarts
+pub mod Changes
+pub mod Reads

@@ -1,11 +1,10 @@
 //! Entries are put behind those of a journal, all of them or none.
 
-ghost use Rattle.std.specs.Prelude.{◌≡◌, ◌+◌, ◌<◌, ◌^◌, ◌++◌, ◌∷◌, [], false, List, ℕ, length, IsTrue, OnErr, OnOk};
-ghost use Rattle.sqlite.specs.State.{HasCleanDisk, Survives};
+ghost use Rattle.std.specs.Prelude.{◌+◌, ◌<◌, ◌^◌, length};
+ghost use Rattle.sqlite.specs.State.{Survives};
 ghost use Rattle.sqlite.specs.Held.{state};
-ghost use Rattle.ibc_journal.specs.Tables.{JournalItem, IsJournal};
-ghost use Rattle.ibc_journal.specs.Entries.{item, items_of};
-ghost use Rattle.ibc_journal.specs.Crashes.{HasBegun, HasCommitted, KeepsCommitted, PutsBehind, LeavesWith, LeavesOutside, Lasts};
+ghost use Rattle.ibc_journal.specs.Crashes.{LeavesOutside};
+ghost use Rattle.ibc_journal.specs.Changes.{BeginsTransaction, CommitsBehind, CommitsNone, CommitsNoneBehind, CommitsNoneInside, CrashLeaves, EndsOpen, EndsOutside, EndsTransaction, InsertsBehind, InsertsOne, LastsBehind, LeavesAdded, LeavesSeen, SeesCommitted};
 
 use crate::JournalEntry;
 use sqlite::{Alter, Connection, Error, params};
@@ -19,20 +18,17 @@ pub fn append<S: Alter>(
 ) -> Result<(), Error>
     requires room { first + length entries.now < 2 ^ 32 }
     // What is committed is the entries that were there, and these behind them.
-    ensures committed { (genesis : List ℕ) (items : List JournalItem) → IsJournal (state S.Store conn.old).now genesis items → first ≡ length items
-        → HasCleanDisk (state S.Store conn.new) → OnOk result (IsJournal (state S.Store conn.new).committed genesis (items ++ items_of entries.now)) }
+    ensures committed { CommitsBehind (state S.Store) conn.old conn.new first entries.now result }
     // The connection sees what is committed.
-    ensures seen { HasCleanDisk (state S.Store conn.new) → OnOk result ((state S.Store conn.new).now ≡ (state S.Store conn.new).committed) }
-    ensures outside { HasCleanDisk (state S.Store conn.new) → OnOk result ((state S.Store conn.new).in_transaction ≡ false) }
-    ensures is_open { HasCleanDisk (state S.Store conn.new) → OnOk result (IsTrue (state S.Store conn.new).is_open) }
+    ensures seen { SeesCommitted (state S.Store) conn.new result }
+    ensures outside { EndsOutside (state S.Store) conn.new result }
+    ensures is_open { EndsOpen (state S.Store) conn.new result }
     // After an error nothing of it is committed, as far as the connection is still open.
-    ensures none { (genesis : List ℕ) (items : List JournalItem) → IsJournal (state S.Store conn.old).now genesis items → first ≡ length items
-        → HasCleanDisk (state S.Store conn.new) → OnErr result (KeepsCommitted (state S.Store conn.old) (state S.Store conn.new)) }
+    ensures none { CommitsNoneBehind (state S.Store) conn.old conn.new first result }
     // Once it has told that they are committed, a crash leaves all of them, and nothing less.
-    ensures lasts { (genesis : List ℕ) (items : List JournalItem) → IsJournal (state S.Store conn.old).now genesis items → first ≡ length items
-        → HasCleanDisk (state S.Store conn.new) → OnOk result (Lasts (state S.Store conn.new) genesis (items ++ items_of entries.now)) }
+    ensures lasts { LastsBehind (state S.Store) conn.old conn.new first entries.now result }
     // A crash at any moment of the call leaves what it could leave before the call, or all of it.
-    ensures crash { Survives (state S.Store conn.old) (state S.Store conn.new) (LeavesWith (state S.Store conn.old) first (items_of entries.now)) }
+    ensures crash { CrashLeaves (state S.Store) conn.old conn.new (LeavesAdded first entries.now) }
 {
     start(conn)?;
     insert_each(conn, first, entries)?;
@@ -42,8 +38,8 @@ pub fn append<S: Alter>(
 
 // Begins a transaction.
 pub(crate) fn start<S: Alter>(conn: &mut Connection<S>) -> Result<usize, Error>
-    ensures begun { HasCleanDisk (state S.Store conn.new) → OnOk result (HasBegun (state S.Store conn.old) (state S.Store conn.new)) }
-    ensures none { HasCleanDisk (state S.Store conn.new) → OnErr result (KeepsCommitted (state S.Store conn.old) (state S.Store conn.new)) }
+    ensures begun { BeginsTransaction (state S.Store) conn.old conn.new result }
+    ensures none { CommitsNone (state S.Store) conn.old conn.new result }
     ensures crash { Survives (state S.Store conn.old) (state S.Store conn.new) (λ _. ⊥) }
 {
     conn.execute("BEGIN", &[])
@@ -51,9 +47,9 @@ pub(crate) fn start<S: Alter>(conn: &mut Connection<S>) -> Result<usize, Error>
 
 // Commits what the transaction saw.
 pub(crate) fn commit<S: Alter>(conn: &mut Connection<S>) -> Result<usize, Error>
-    ensures committed { HasCleanDisk (state S.Store conn.new) → OnOk result (HasCommitted (state S.Store conn.old) (state S.Store conn.new)) }
-    ensures none { HasCleanDisk (state S.Store conn.new) → OnErr result (KeepsCommitted (state S.Store conn.old) (state S.Store conn.new)) }
-    ensures crash { Survives (state S.Store conn.old) (state S.Store conn.new) (λ trees. trees ≡ (state S.Store conn.old).now.trees) }
+    ensures committed { EndsTransaction (state S.Store) conn.old conn.new result }
+    ensures none { CommitsNone (state S.Store) conn.old conn.new result }
+    ensures crash { CrashLeaves (state S.Store) conn.old conn.new LeavesSeen }
 {
     conn.execute("COMMIT", &[])
 }
@@ -65,10 +61,9 @@ fn insert_each<S: Alter>(
     entries: &[JournalEntry],
 ) -> Result<(), Error>
     requires room { first + length entries.now < 2 ^ 32 }
-    ensures put { OnOk result (PutsBehind (state S.Store conn.old) (state S.Store conn.new) first (items_of entries.now)) }
-    ensures none { (genesis : List ℕ) (items : List JournalItem) → IsJournal (state S.Store conn.old).now genesis items → first ≡ length items → IsTrue (state S.Store conn.old).in_transaction
-        → HasCleanDisk (state S.Store conn.new) → OnErr result (KeepsCommitted (state S.Store conn.old) (state S.Store conn.new)) }
-    ensures crash { Survives (state S.Store conn.old) (state S.Store conn.new) (LeavesOutside (state S.Store conn.old) first) }
+    ensures put { InsertsBehind (state S.Store) conn.old conn.new first entries.now result }
+    ensures none { CommitsNoneInside (state S.Store) conn.old conn.new first result }
+    ensures crash { CrashLeaves (state S.Store) conn.old conn.new (λ s. LeavesOutside s first) }
 {
     let mut place = first;
     for added in entries {
@@ -84,9 +79,9 @@ fn insert<S: Alter>(
     place: u32,
     entry: &JournalEntry,
 ) -> Result<usize, Error>
-    ensures put { OnOk result (PutsBehind (state S.Store conn.old) (state S.Store conn.new) place (item entry.now ∷ [])) }
-    ensures none { HasCleanDisk (state S.Store conn.new) → OnErr result (KeepsCommitted (state S.Store conn.old) (state S.Store conn.new)) }
-    ensures crash { Survives (state S.Store conn.old) (state S.Store conn.new) (LeavesOutside (state S.Store conn.old) place) }
+    ensures put { InsertsOne (state S.Store) conn.old conn.new place entry.now result }
+    ensures none { CommitsNone (state S.Store) conn.old conn.new result }
+    ensures crash { CrashLeaves (state S.Store) conn.old conn.new (λ s. LeavesOutside s place) }
 {
     conn.execute(
         "INSERT INTO entries(place, chain, kind, log_place, event, answer, digest) VALUES (?1, ?2, ?3, ?4, ?5, ?6, ?7)",

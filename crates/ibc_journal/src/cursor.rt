@@ -1,15 +1,15 @@
 //! A journal is read from its first entry on, and each digest is compared with the one that is due.
 
-ghost use Rattle.std.specs.Prelude.{◌≡◌, ◌≢◌, false, ◌⊎◌, ◌+◌, ◌≤◌, ◌^◌, Option, None, List, ℕ, Ok, Err, length, slice_get, option_map, IfOk, IfErr, IfSome, IsTrue, OnOk, OnErr};
-ghost use Rattle.sqlite.specs.State.{HasCleanDisk, IsUnchanged, Survives};
+ghost use Rattle.std.specs.Prelude.{◌≡◌, ◌+◌, None, List, Ok, IfOk, IfErr, IfSome, OnOk, OnErr};
 ghost use Rattle.sqlite.specs.Held.{state};
-ghost use Rattle.ibc_journal.specs.Tables.{JournalItem, IsJournal};
+ghost use Rattle.ibc_journal.specs.Tables.{JournalItem};
 ghost use Rattle.ibc_journal.specs.Entries.{item};
-ghost use Rattle.ibc_journal.specs.Shown.{shown_row, shown_rows};
-ghost use Rattle.ibc_journal.specs.Digests.{digest_after, HasReadTo, HasReadAll, IsDamagedAt, IsFirstDamage};
+ghost use Rattle.ibc_journal.specs.Shown.{shown_row};
+ghost use Rattle.ibc_journal.specs.Digests.{HasReadTo};
 ghost use Rattle.ibc_journal.specs.Faults.{IsOfReading, IsOfEnding};
+ghost use Rattle.ibc_journal.specs.Changes.{CrashLeaves};
 ghost use Rattle.ibc_journal.specs.Crashes.{LeavesNothing};
-ghost use Rattle.ibc_journal.specs.declared.fault.JournalFault.TheVariants.{Damaged, Early, Full, Gap};
+ghost use Rattle.ibc_journal.specs.Reads.{AuditsDamage, AuditsFull, AuditsNoGap, AuditsWhole, EndsBefore, FindsAt, FindsEndAt, FindsNoMore, FindsNoneEarly, IsNotPassed, LeavesTheSame, PassesOver, ReadsNext, ShowsFirstEntry, TellsDamage, TellsFull, TellsNoEarly, TellsNoGapAt};
 
 use crate::digests::{digest_after, first_digest};
 use crate::{JournalEntry, JournalFault};
@@ -46,19 +46,15 @@ pub fn next<S: Alter>(
     conn: &mut Connection<S>,
     cursor: &mut Cursor,
 ) -> Result<Option<JournalEntry>, JournalFault>
-    ensures entry { (genesis : List ℕ) (items : List JournalItem) → IsJournal (state S.Store conn.old).now genesis items → HasReadTo genesis items cursor.old
-        → HasCleanDisk (state S.Store conn.new) → IfOk result (λ found. (option_map item found ≡ slice_get items cursor.old.place) × HasReadTo genesis items cursor.new) }
+    ensures entry { ReadsNext (state S.Store) conn.old conn.new cursor.old cursor.new result }
     ensures more { IfOk result (λ found. IfSome found (λ _. cursor.new.place ≡ cursor.old.place + 1)) }
     ensures end { result ≡ Ok None → cursor.new ≡ cursor.old }
-    ensures damaged { (genesis : List ℕ) (items : List JournalItem) → IsJournal (state S.Store conn.old).now genesis items
-        → HasCleanDisk (state S.Store conn.new) → (place : ℕ) → result ≡ Err (Damaged place) → (place ≡ cursor.old.place) × IsDamagedAt items cursor.old }
-    ensures full { (genesis : List ℕ) (items : List JournalItem) → IsJournal (state S.Store conn.old).now genesis items
-        → HasCleanDisk (state S.Store conn.new) → result ≡ Err Full → 2 ^ 32 ≤ length items }
+    ensures damaged { TellsDamage (state S.Store) conn.old conn.new cursor.old result }
+    ensures full { TellsFull (state S.Store) conn.old conn.new result }
     ensures faults { IfErr result (IsOfReading cursor.old.place) }
     ensures stays { OnErr result (cursor.new ≡ cursor.old) }
-    ensures same { (genesis : List ℕ) (items : List JournalItem) → IsJournal (state S.Store conn.old).now genesis items
-        → HasCleanDisk (state S.Store conn.new) → OnOk result (IsUnchanged (state S.Store conn.old) (state S.Store conn.new)) }
-    ensures crash { Survives (state S.Store conn.old) (state S.Store conn.new) (LeavesNothing (state S.Store conn.old)) }
+    ensures same { LeavesTheSame (state S.Store) conn.old conn.new result }
+    ensures crash { CrashLeaves (state S.Store) conn.old conn.new LeavesNothing }
 {
     match entry_at(conn, cursor.place) {
         Ok(Some(entry)) => match pass(cursor, &entry) {
@@ -76,15 +72,11 @@ pub fn next<S: Alter>(
 /// Reads all of a journal that began so. Answers how far it goes. Error: `Damaged` with the first place whose entry isn't the one that
 /// was put there; `Gap`, where entries are missing, and so never of a journal; `Full`, where there are 2^32 entries or more.
 pub fn audit<S: Alter>(conn: &mut Connection<S>, genesis: &[u8]) -> Result<Cursor, JournalFault>
-    ensures whole { (items : List JournalItem) → IsJournal (state S.Store conn.old).now genesis.now items
-        → HasCleanDisk (state S.Store conn.new) → IfOk result (HasReadAll genesis.now items) }
-    ensures damaged { (items : List JournalItem) → IsJournal (state S.Store conn.old).now genesis.now items
-        → HasCleanDisk (state S.Store conn.new) → (place : ℕ) → result ≡ Err (Damaged place) → IsFirstDamage genesis.now items place }
-    ensures gap { (items : List JournalItem) → IsJournal (state S.Store conn.old).now genesis.now items
-        → HasCleanDisk (state S.Store conn.new) → (place : ℕ) → result ≢ Err (Gap place) }
-    ensures full { (items : List JournalItem) → IsJournal (state S.Store conn.old).now genesis.now items
-        → HasCleanDisk (state S.Store conn.new) → result ≡ Err Full → 2 ^ 32 ≤ length items }
-    ensures crash { Survives (state S.Store conn.old) (state S.Store conn.new) (LeavesNothing (state S.Store conn.old)) }
+    ensures whole { AuditsWhole (state S.Store) conn.old conn.new genesis.now result }
+    ensures damaged { AuditsDamage (state S.Store) conn.old conn.new genesis.now result }
+    ensures gap { AuditsNoGap (state S.Store) conn.old conn.new genesis.now result }
+    ensures full { AuditsFull (state S.Store) conn.old conn.new genesis.now result }
+    ensures crash { CrashLeaves (state S.Store) conn.old conn.new LeavesNothing }
 {
     let mut cursor = Cursor::new(genesis);
     'reading: for _turn in 0..PLACES {
@@ -101,16 +93,12 @@ pub fn audit<S: Alter>(conn: &mut Connection<S>, genesis: &[u8]) -> Result<Curso
 
 /// Whether the journal ends where its reader has come to. Error: `Gap` where it doesn't; `Early` where there is an entry before place 0.
 pub fn end_at<S: Alter>(conn: &mut Connection<S>, cursor: &Cursor) -> Result<(), JournalFault>
-    ensures end { (genesis : List ℕ) (items : List JournalItem) → IsJournal (state S.Store conn.old).now genesis items → cursor.now.place ≡ length items
-        → HasCleanDisk (state S.Store conn.new) → IfErr result (λ fault. (place : ℕ) → fault ≢ Gap place) }
-    ensures early { (genesis : List ℕ) (items : List JournalItem) → IsJournal (state S.Store conn.old).now genesis items
-        → HasCleanDisk (state S.Store conn.new) → IfErr result (λ fault. fault ≢ Early) }
-    ensures ended { (genesis : List ℕ) (items : List JournalItem) → IsJournal (state S.Store conn.old).now genesis items
-        → HasCleanDisk (state S.Store conn.new) → OnOk result (length items ≤ cursor.now.place) }
+    ensures end { TellsNoGapAt (state S.Store) conn.old conn.new cursor.now.place result }
+    ensures early { TellsNoEarly (state S.Store) conn.old conn.new result }
+    ensures ended { EndsBefore (state S.Store) conn.old conn.new cursor.now.place result }
     ensures faults { IfErr result (IsOfEnding cursor.now.place) }
-    ensures same { (genesis : List ℕ) (items : List JournalItem) → IsJournal (state S.Store conn.old).now genesis items
-        → HasCleanDisk (state S.Store conn.new) → OnOk result (IsUnchanged (state S.Store conn.old) (state S.Store conn.new)) }
-    ensures crash { Survives (state S.Store conn.old) (state S.Store conn.new) (LeavesNothing (state S.Store conn.old)) }
+    ensures same { LeavesTheSame (state S.Store) conn.old conn.new result }
+    ensures crash { CrashLeaves (state S.Store) conn.old conn.new LeavesNothing }
 {
     if !is_end(conn, cursor.place)? {
         return Err(JournalFault::Gap(cursor.place));
@@ -123,11 +111,9 @@ pub fn end_at<S: Alter>(conn: &mut Connection<S>, cursor: &Cursor) -> Result<(),
 
 // Whether there is an entry before the first place.
 fn has_early<S: Alter>(conn: &mut Connection<S>) -> Result<bool, Error>
-    ensures none { (genesis : List ℕ) (items : List JournalItem) → IsJournal (state S.Store conn.old).now genesis items
-        → HasCleanDisk (state S.Store conn.new) → IfOk result (λ has. has ≡ false) }
-    ensures same { (genesis : List ℕ) (items : List JournalItem) → IsJournal (state S.Store conn.old).now genesis items
-        → HasCleanDisk (state S.Store conn.new) → OnOk result (IsUnchanged (state S.Store conn.old) (state S.Store conn.new)) }
-    ensures crash { Survives (state S.Store conn.old) (state S.Store conn.new) (LeavesNothing (state S.Store conn.old)) }
+    ensures none { FindsNoneEarly (state S.Store) conn.old conn.new result }
+    ensures same { LeavesTheSame (state S.Store) conn.old conn.new result }
+    ensures crash { CrashLeaves (state S.Store) conn.old conn.new LeavesNothing }
 {
     let rows = conn.query_all("SELECT place FROM entries WHERE place < ?1", params![FIRST])?;
     let is_empty = rows.as_slice().is_empty();
@@ -137,13 +123,10 @@ fn has_early<S: Alter>(conn: &mut Connection<S>) -> Result<bool, Error>
 
 // Whether there is no entry at a place or behind it.
 fn is_end<S: Alter>(conn: &mut Connection<S>, from: u32) -> Result<bool, Error>
-    ensures end { (genesis : List ℕ) (items : List JournalItem) → IsJournal (state S.Store conn.old).now genesis items → from ≡ length items
-        → HasCleanDisk (state S.Store conn.new) → IfOk result (λ is. IsTrue is) }
-    ensures ended { (genesis : List ℕ) (items : List JournalItem) → IsJournal (state S.Store conn.old).now genesis items
-        → HasCleanDisk (state S.Store conn.new) → IfOk result (λ is. IsTrue is → length items ≤ from) }
-    ensures same { (genesis : List ℕ) (items : List JournalItem) → IsJournal (state S.Store conn.old).now genesis items
-        → HasCleanDisk (state S.Store conn.new) → OnOk result (IsUnchanged (state S.Store conn.old) (state S.Store conn.new)) }
-    ensures crash { Survives (state S.Store conn.old) (state S.Store conn.new) (LeavesNothing (state S.Store conn.old)) }
+    ensures end { FindsEndAt (state S.Store) conn.old conn.new from result }
+    ensures ended { FindsNoMore (state S.Store) conn.old conn.new from result }
+    ensures same { LeavesTheSame (state S.Store) conn.old conn.new result }
+    ensures crash { CrashLeaves (state S.Store) conn.old conn.new LeavesNothing }
 {
     let rows = conn.query_all("SELECT place FROM entries WHERE place >= ?1", params![from])?;
     let is = rows.as_slice().is_empty();
@@ -153,9 +136,8 @@ fn is_end<S: Alter>(conn: &mut Connection<S>, from: u32) -> Result<bool, Error>
 
 // Passes over an entry that has the digest that is due.
 fn pass(cursor: &mut Cursor, entry: &JournalEntry) -> Result<(), JournalFault>
-    ensures passed { OnOk result (((item entry.now).digest ≡ digest_after cursor.old.last (item entry.now))
-        × (cursor.new ≡ record { place = cursor.old.place + 1; last = (item entry.now).digest })) }
-    ensures refused { IfErr result (λ fault. (fault ≡ Full) ⊎ ((fault ≡ Damaged cursor.old.place) × ((item entry.now).digest ≢ digest_after cursor.old.last (item entry.now)))) }
+    ensures passed { OnOk result (PassesOver cursor.old (item entry.now) cursor.new) }
+    ensures refused { IfErr result (IsNotPassed cursor.old (item entry.now)) }
     ensures faults { IfErr result (IsOfReading cursor.old.place) }
     ensures stays { OnErr result (cursor.new ≡ cursor.old) }
 {
@@ -176,11 +158,9 @@ pub fn entry_at<S: Alter>(
     conn: &mut Connection<S>,
     place: u32,
 ) -> Result<Option<JournalEntry>, Error>
-    ensures found { (genesis : List ℕ) (items : List JournalItem) → IsJournal (state S.Store conn.old).now genesis items
-        → HasCleanDisk (state S.Store conn.new) → IfOk result (λ found. option_map item found ≡ slice_get items place) }
-    ensures same { (genesis : List ℕ) (items : List JournalItem) → IsJournal (state S.Store conn.old).now genesis items
-        → HasCleanDisk (state S.Store conn.new) → OnOk result (IsUnchanged (state S.Store conn.old) (state S.Store conn.new)) }
-    ensures crash { Survives (state S.Store conn.old) (state S.Store conn.new) (LeavesNothing (state S.Store conn.old)) }
+    ensures found { FindsAt (state S.Store) conn.old conn.new place result }
+    ensures same { LeavesTheSame (state S.Store) conn.old conn.new result }
+    ensures crash { CrashLeaves (state S.Store) conn.old conn.new LeavesNothing }
 {
     let rows = conn.query_all(
         "SELECT chain, kind, log_place, event, answer, digest FROM entries WHERE place = ?1",
@@ -193,7 +173,7 @@ pub fn entry_at<S: Alter>(
 
 // The entry that the first row shows, if there is one.
 fn first_of(rows: &[Row]) -> Result<Option<JournalEntry>, Error>
-    ensures { (o : Option JournalItem) → rows.now ≡ shown_rows o → IfOk result (λ found. option_map item found ≡ o) }
+    ensures { ShowsFirstEntry rows.now result }
 {
     match rows {
         [] => Ok(None),

@@ -1,13 +1,14 @@
 //! What a file holds, and how its journal began.
 
-ghost use Rattle.std.specs.Prelude.{◌≡◌, [], ◌∷◌, IfErr, IfOk, IsTrue, List, OnOk, Some, pos, ℕ, Ok, ⊤};
-ghost use Rattle.sqlite.specs.State.{HasCleanDisk, IsUnchanged, Survives};
+ghost use Rattle.std.specs.Prelude.{◌≡◌, [], ◌∷◌, IfErr, IfOk, IsTrue, Some, Ok, ⊤};
+ghost use Rattle.sqlite.specs.State.{Survives};
 ghost use Rattle.sqlite.specs.Held.{state};
-ghost use Rattle.ibc_journal.specs.Tables.{no_schema, meta, entries, journal_schema, JournalItem, IsJournal};
-ghost use Rattle.ibc_journal.specs.Shown.{shown_beginning};
+ghost use Rattle.ibc_journal.specs.Tables.{no_schema, meta, entries, journal_schema};
 ghost use Rattle.ibc_journal.specs.Plain.{plain_column, AreNumbers, AreBytes, IsPlainColumn, IsPlainTable, HasNoRules, HasPlainDefaults};
+ghost use Rattle.ibc_journal.specs.Changes.{CrashLeaves};
 ghost use Rattle.ibc_journal.specs.Crashes.{LeavesNothing};
 ghost use Rattle.ibc_journal.specs.Faults.{IsOfBeginning};
+ghost use Rattle.ibc_journal.specs.Reads.{HasStill, LeavesTheSame, SeesJournal, ShowsBeginning, ShowsOnlyBeginning, TellsBeginning};
 ghost use Rattle.ibc_journal.specs.declared.looking.Looks.TheVariants.{Empty, Journal};
 
 use crate::JournalFault;
@@ -42,11 +43,11 @@ pub struct Beginning {
 /// What the file of a connection looks like. `Empty` comes where `begin` makes a journal, and `Journal` where the tables are
 /// those that `begin` makes.
 pub fn look<S: Alter>(alloc: Global, conn: &mut Connection<S>) -> Result<Looks, Error>
-    ensures empty { result ≡ Ok Empty → ((state S.Store conn.old).now.schema ≡ no_schema) × (conn.new ≡ conn.old) }
-    ensures journal { result ≡ Ok Journal → ((state S.Store conn.old).now.schema ≡ journal_schema) × (conn.new ≡ conn.old) }
+    ensures empty { result ≡ Ok Empty → HasStill (state S.Store) no_schema conn.old conn.new }
+    ensures journal { result ≡ Ok Journal → HasStill (state S.Store) journal_schema conn.old conn.new }
     ensures sees_empty { (state S.Store conn.old).now.schema ≡ no_schema → result ≡ Ok Empty }
-    ensures sees_journal { (state S.Store conn.old).now.schema ≡ journal_schema → IfOk result (λ looks. looks ≡ Journal) }
-    ensures crash { Survives (state S.Store conn.old) (state S.Store conn.new) (LeavesNothing (state S.Store conn.old)) }
+    ensures sees_journal { SeesJournal (state S.Store) conn.old result }
+    ensures crash { CrashLeaves (state S.Store) conn.old conn.new LeavesNothing }
 {
     if is_empty(conn.schema()) {
         return Ok(Looks::Empty);
@@ -59,12 +60,10 @@ pub fn look<S: Alter>(alloc: Global, conn: &mut Connection<S>) -> Result<Looks, 
 
 /// How the journal of a connection began. Error: `Beginnings` where the first table has no row, or more than one.
 pub fn beginning_of<S: Alter>(conn: &mut Connection<S>) -> Result<Beginning, JournalFault>
-    ensures began { (genesis : List ℕ) (items : List JournalItem) → IsJournal (state S.Store conn.old).now genesis items
-        → HasCleanDisk (state S.Store conn.new) → IfOk result (λ began. (began.format ≡ pos 1) × (began.genesis.items ≡ genesis)) }
+    ensures began { TellsBeginning (state S.Store) conn.old conn.new result }
     ensures faults { IfErr result IsOfBeginning }
-    ensures same { (genesis : List ℕ) (items : List JournalItem) → IsJournal (state S.Store conn.old).now genesis items
-        → HasCleanDisk (state S.Store conn.new) → OnOk result (IsUnchanged (state S.Store conn.old) (state S.Store conn.new)) }
-    ensures crash { Survives (state S.Store conn.old) (state S.Store conn.new) (LeavesNothing (state S.Store conn.old)) }
+    ensures same { LeavesTheSame (state S.Store) conn.old conn.new result }
+    ensures crash { CrashLeaves (state S.Store) conn.old conn.new LeavesNothing }
 {
     let rows = conn.query_all("SELECT format, genesis FROM meta", &[])?;
     let found = only_beginning(rows.as_slice());
@@ -75,7 +74,7 @@ pub fn beginning_of<S: Alter>(conn: &mut Connection<S>) -> Result<Beginning, Jou
 // The beginning that the only row shows.
 fn only_beginning(rows: &[Row]) -> Result<Beginning, JournalFault>
     ensures faults { IfErr result IsOfBeginning }
-    ensures began { (genesis : List ℕ) → rows.now ≡ shown_beginning genesis ∷ [] → IfOk result (λ began. (began.format ≡ pos 1) × (began.genesis.items ≡ genesis)) }
+    ensures began { ShowsOnlyBeginning rows.now result }
 {
     match rows {
         [row] => Ok(beginning_in(row)?),
@@ -85,7 +84,7 @@ fn only_beginning(rows: &[Row]) -> Result<Beginning, JournalFault>
 
 // The beginning that a row shows.
 fn beginning_in(row: &Row) -> Result<Beginning, Error>
-    ensures { (genesis : List ℕ) → row.now ≡ shown_beginning genesis → IfOk result (λ began. (began.format ≡ pos 1) × (began.genesis.items ≡ genesis)) }
+    ensures { ShowsBeginning row.now result }
 {
     Ok(Beginning {
         format: row.get(0)?,

@@ -3,9 +3,8 @@
 ghost use Rattle.std.specs.Prelude.{IfErr, IfOk, IsTrue};
 ghost use Rattle.sqlite.specs.Opening.{is_open_error};
 ghost use Rattle.sqlite.specs.WalFiles.{image_at};
-ghost use Rattle.sqlite.specs.State.{HasCleanDisk};
 ghost use Rattle.sqlite.specs.Files.{file_state};
-ghost use Rattle.ibc_journal.specs.Restarts.{FindsJournal};
+ghost use Rattle.ibc_journal.specs.Reads.{OpensJournal};
 
 use sqlite::{Connection, Error, FileFrom, FileStore, Start};
 
@@ -16,7 +15,7 @@ pub fn open_journal<S: Start>(
     path: &str,
     start: S,
 ) -> Result<Connection<FileStore<FileFrom<S>>>, Error>
-    ensures found { IfOk result (λ conn. HasCleanDisk (file_state conn) → FindsJournal (image_at S.Start) (file_state conn)) }
+    ensures found { IfOk result (OpensJournal file_state (image_at S.Start)) }
     ensures named { IfErr result (λ error. IsTrue (is_open_error error)) }
 {
     match Connection::open_from(rt, path, false, start) {

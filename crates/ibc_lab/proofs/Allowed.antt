@@ -115,8 +115,8 @@ holding_formed chains place h d is none =
     let second = leaf_faults chains (inside place 1) (leaf.Text text.BaseDenom) denom in
     let third = parts_faults chains place 2 (leaf.Text text.Amount ∷ []) (amount ∷ []) in
     let rest = right_nil first (second ++ third) parts in (
-      text_formed chains (inside place 0) text.User h.0 user is.4 (left_nil first (second ++ third) parts),
-      text_formed chains (inside place 1) text.BaseDenom h.1 denom is.5 (left_nil second third rest),
+      text_formed chains (inside place 0) text.User h.0 user is.4.0 (left_nil first (second ++ third) parts),
+      text_formed chains (inside place 1) text.BaseDenom h.1 denom is.5.0 (left_nil second third rest),
     )
 
 each_formed : (chains : List Data) (place : ScriptPlace) (k : ℕ) (hs : List Holding) (ds : List Data) → script.AreEach script.IsHolding hs ds

@@ -1,5 +1,6 @@
 -- What is wrong with the JSON value of a script, each fault with its place.
-use Rattle.std.specs.Prelude.{ℕ, ◌+◌, Bool, true, false, ◌&&◌, ◌||◌, ◌==◌, codes, List, [], ◌∷◌, ◌++◌, length, take, Option, Some, None, if◌then◌else◌}
+use Rattle.std.specs.Prelude.{◌≡◌, ℕ, ◌+◌, Bool, true, false, ◌&&◌, ◌||◌, ◌==◌, codes, List, [], ◌∷◌, ◌++◌, length, take, Option, Some, None, OnOk, Result, if◌then◌else◌}
+use Rattle.std.specs.Global.{Vec}
 use Rattle.std.specs.Str.{bytes_eq}
 use Rattle.std.specs.Ordering.{nat_cmp, match_ordering}
 use Rattle.std.specs.Cmp.Lexicographic.{slice_cmp}
@@ -26,6 +27,10 @@ use Rattle.ibc_lab.specs.Places.{at_member, inside, place_of}
 use Rattle.ibc_lab.specs.Tables.{chain_owes, kind_owed, script_owes, step_owes}
 use Rattle.ibc_lab.specs.Values.{item_text, items_at, items_in, items_of, kind_in, name_in, names_of, passes}
 use Rattle.ibc_lab.specs.Words.{member_name}
+
+-- where it goes well, these faults stand behind those that were found before
+abbrev pub Gains : {A E : Type 0} → Result A E → Vec ScriptFault → Vec ScriptFault → List ScriptFault → Type 0
+Gains result old new faults = OnOk result (new.items ≡ old.items ++ faults)
 
 abbrev pub fault_at : ScriptPlace → FaultKind → List ScriptFault
 fault_at place what = record { place = place; wrong = what } ∷ []

@@ -6,6 +6,7 @@ pub mod Tables
 pub mod Places
 pub mod Forms
 pub mod Faults
+pub mod Judging
 pub mod GenesisFaults
 pub mod Verdicts
 pub mod Spots

@@ -1,5 +1,6 @@
 -- Which texts of a script have which form.
-use Rattle.std.specs.Prelude.{ℕ, codes, Bool, true, false, ◌&&◌, ◌||◌, not, nat_le, nat_lt, ◌==◌, List, [], ◌∷◌, length, slice_index, is_some, is_ok}
+use Rattle.std.specs.Prelude.{◌≡◌, ℕ, codes, Bool, true, false, ◌&&◌, ◌||◌, not, nat_le, nat_lt, ◌==◌, List, [], ◌∷◌, length, slice_index, is_some, is_ok}
+use Rattle.std.specs.Borrow.{Bor}
 use Rattle.std.specs.List.{slice_split}
 use Rattle.std.specs.Str.{bytes_eq}
 use Rattle.std.specs.Ordering.{nat_cmp, match_ordering}
@@ -12,6 +13,16 @@ use Rattle.ibc_script.specs.ChainNames.{is_chain_name}
 use Rattle.ibc_lab.specs.declared.text_form.TextForm.{TextForm}
 use Rattle.ibc_lab.specs.declared.text_form.TextForm.TheVariants as form
 use Rattle.ibc_lab.specs.Words.{kind_of}
+
+-- ---- slashes
+
+-- no slash stands in the text
+abbrev pub IsOnePart : Text → Type 0
+IsOnePart text = slice_split is_slash text ≡ text ∷ []
+
+-- what stands before the first slash, and what stands behind it
+abbrev pub IsSplitAtSlash : Text → Bor Text × Bor Text → Type 0
+IsSplitAtSlash text = λ parts. slice_split is_slash text ≡ parts.0.now ∷ slice_split is_slash parts.1.now
 
 -- ---- numbers
 

@@ -1,7 +1,12 @@
 -- What stands in the JSON value of a script.
-use Rattle.std.specs.Prelude.{ℕ, codes, Bool, false, List, [], ◌∷◌, Option, Some, None, option_map, option_and_then, unwrap_or}
+use Rattle.std.specs.Prelude.{ℕ, codes, Bool, false, List, [], ◌∷◌, Option, Some, None, option_map, option_and_then, unwrap_or, map, String, string_bytes}
+use Rattle.std.specs.Borrow.{Bor}
+use Rattle.std.specs.BTreeMap.{BTreeMap, keys}
+use Rattle.std.specs.declared.alloc.Global.{Global}
 use Rattle.serde_json.specs.Data.{Data, Items, no_items, item, Members, no_members, member}
-use Rattle.serde_json.specs.Find.{get, at, as_array, as_str}
+use Rattle.serde_json.specs.Find.{get, at, as_array, as_number, as_str, as_u64}
+use Rattle.serde_json.specs.View.{view}
+use Rattle.serde_json.specs.declared.value.Value.{Value}
 use Rattle.ibc_ids.specs.Texts.{Text}
 use Rattle.ibc_lab.specs.declared.step_kind.StepKind.{StepKind}
 use Rattle.ibc_lab.specs.Words.{kind_of}
@@ -20,6 +25,18 @@ list_of (item d ds) = d ∷ list_of ds
 abbrev pub names_of : Members → List Text
 names_of no_members = []
 names_of (member name d ms) = name ∷ names_of ms
+
+-- the same of members as they are read
+abbrev pub names_in : BTreeMap (String Global) Value → List Text
+names_in members = map string_bytes (keys members)
+
+-- the whole number below 2^64 that a value is
+abbrev pub whole_number : Value → Option ℕ
+whole_number value = option_and_then as_u64 (as_number (view value))
+
+-- the text behind a reference
+abbrev pub text_behind : Option (Bor Text) → Option Text
+text_behind text = option_map (λ t. t.now) text
 
 -- the items of a list, where the value is one
 abbrev pub items_in : Data → Option (List Data)

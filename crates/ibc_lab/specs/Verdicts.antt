@@ -2,8 +2,11 @@
 use Rattle.std.specs.Prelude.{◌≡◌, ◌≢◌, ◌<◌, ◌⊎◌, IsTrue, IsUtf8, List, [], ◌∷◌, ◌++◌, length, Some, None}
 use Rattle.serde_json.specs.Data.{Data}
 use Rattle.serde_json.specs.Read.{read}
+use Rattle.serde_json.specs.View.{view}
+use Rattle.serde_json.specs.declared.value.Value.{Value}
 use Rattle.ibc_ids.specs.Texts.{Text}
-use Rattle.ibc_machine.specs.chain.Genesis.{is_allowed}
+use Rattle.ibc_machine.specs.chain.Genesis.{genesis_state, is_allowed}
+use Rattle.ibc_machine.specs.declared.genesis.Genesis.{Genesis}
 use Rattle.ibc_script.specs.ScriptValues.{IsScript, IsScriptText, ScriptContent, content_of}
 use Rattle.ibc_lab.specs.declared.checking.Verdict.{Verdict}
 use Rattle.ibc_lab.specs.declared.checking.Verdict.TheVariants as verdict
@@ -22,6 +25,10 @@ at_least_one (f ∷ fs) = f ∷ fs
 -- what is wrong with a value that is this script
 abbrev pub content_faults : ScriptContent → Data → List ScriptFault
 content_faults content d = script_faults d ++ genesis_faults content.genesis
+
+-- what is wrong with a value and with a genesis
+abbrev pub faults_with : Value → Genesis → List ScriptFault
+faults_with value genesis = script_faults (view value) ++ genesis_faults (genesis_state genesis)
 
 -- the value is this script, nothing is wrong with it, and its genesis is allowed
 abbrev pub IsGoodScript : ScriptContent → Data → Type 0

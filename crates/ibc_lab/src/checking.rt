@@ -1,14 +1,12 @@
 //! Whether a text is a script that can be run, and what is wrong where it isn't.
 
-ghost use Rattle.std.specs.Prelude.{◌≡◌, ◌≤◌, ◌<◌, ◌++◌, None, Some, length, IfOk, IsUtf8, OnOk};
+ghost use Rattle.std.specs.Prelude.{◌≡◌, ◌≤◌, ◌<◌, None, Some, length, IfOk, IsUtf8, OnOk};
 ghost use Rattle.serde_json.specs.Read.{read};
 ghost use Rattle.serde_json.specs.View.{view};
-ghost use Rattle.ibc_machine.specs.chain.Genesis.{genesis_state};
 ghost use Rattle.ibc_script.specs.ScriptValues.{IsScript, content_of};
 ghost use Rattle.ibc_lab.specs.Faults.{fault_at, script_faults};
-ghost use Rattle.ibc_lab.specs.GenesisFaults.{genesis_faults};
 ghost use Rattle.ibc_lab.specs.Places.{place_of};
-ghost use Rattle.ibc_lab.specs.Verdicts.{IsVerdict, IsVerdictOf, at_least_one, content_faults};
+ghost use Rattle.ibc_lab.specs.Verdicts.{IsVerdict, IsVerdictOf, at_least_one, content_faults, faults_with};
 
 use crate::fault::note;
 use crate::genesis::genesis_faults;
@@ -146,7 +144,7 @@ fn content_faults(
     value: &Value,
     genesis: &Genesis,
 ) -> Result<Vec<ScriptFault>, AllocError>
-    ensures { IfOk result (λ faults. faults.items ≡ script_faults (view value.now) ++ genesis_faults (genesis_state genesis.now)) }
+    ensures { IfOk result (λ faults. faults.items ≡ faults_with value.now genesis.now) }
 {
     let mut faults = script_faults(alloc, value)?;
     genesis_faults(genesis, &mut faults)?;

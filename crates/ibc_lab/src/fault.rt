@@ -1,8 +1,8 @@
 //! What is wrong at a place of a script.
 
-ghost use Rattle.std.specs.Prelude.{◌≡◌, ◌++◌, OnOk};
+ghost use Rattle.std.specs.Prelude.{◌≡◌};
 ghost use Rattle.ibc_lab.specs.Forms.{parts_of};
-ghost use Rattle.ibc_lab.specs.Faults.{fault_at};
+ghost use Rattle.ibc_lab.specs.Faults.{Gains, fault_at};
 
 use crate::{Leaf, Member, ScriptPlace, TextForm};
 use ibc_ids::Bytes;
@@ -90,7 +90,7 @@ pub fn note(
     place: ScriptPlace,
     wrong: FaultKind,
 ) -> Result<(), AllocError>
-    ensures { OnOk result (found.new.items ≡ found.old.items ++ fault_at place wrong) }
+    ensures { Gains result found.old found.new (fault_at place wrong) }
 {
     found.push(ScriptFault { place, wrong })?;
     Ok(())

@@ -1,8 +1,9 @@
 //! What is wrong with a genesis that was read.
 
-ghost use Rattle.std.specs.Prelude.{◌≡◌, ◌<◌, ◌++◌, length, map, OnOk};
+ghost use Rattle.std.specs.Prelude.{◌≡◌, ◌<◌, length, map};
 ghost use Rattle.std.specs.List.{list_any};
 ghost use Rattle.ibc_machine.specs.chain.Genesis.{chain_state, genesis_state, is_same_holding};
+ghost use Rattle.ibc_lab.specs.Faults.{Gains};
 ghost use Rattle.ibc_lab.specs.GenesisFaults.{are_small, chains_faults, genesis_faults, holdings_faults, too_much_faults, twice_faults, window_faults};
 
 use crate::fault::note;
@@ -13,14 +14,14 @@ use std::alloc::AllocError;
 
 /// Notes what is wrong with a genesis, each fault with its place in the script, beside what the forms of its values tell.
 pub fn genesis_faults(genesis: &Genesis, found: &mut Vec<ScriptFault>) -> Result<(), AllocError>
-    ensures { OnOk result (found.new.items ≡ found.old.items ++ genesis_faults (genesis_state genesis.now)) }
+    ensures { Gains result found.old found.new (genesis_faults (genesis_state genesis.now)) }
 {
     window(genesis, found)?;
     chains(genesis.chains.as_slice(), found)
 }
 
 fn window(genesis: &Genesis, found: &mut Vec<ScriptFault>) -> Result<(), AllocError>
-    ensures { OnOk result (found.new.items ≡ found.old.items ++ window_faults (genesis_state genesis.now)) }
+    ensures { Gains result found.old found.new (window_faults (genesis_state genesis.now)) }
 {
     if genesis.window <= genesis.capacity {
         Ok(())
@@ -31,7 +32,7 @@ fn window(genesis: &Genesis, found: &mut Vec<ScriptFault>) -> Result<(), AllocEr
 }
 
 fn chains(starts: &[ChainStart], found: &mut Vec<ScriptFault>) -> Result<(), AllocError>
-    ensures { OnOk result (found.new.items ≡ found.old.items ++ chains_faults 0 (map chain_state starts.now)) }
+    ensures { Gains result found.old found.new (chains_faults 0 (map chain_state starts.now)) }
 {
     for (chain, start) in starts.iter().enumerate() {
         holdings(chain, start.balances.as_slice(), found)?;
@@ -45,7 +46,7 @@ fn holdings(
     all: &[(UserName, Denom, u128)],
     found: &mut Vec<ScriptFault>,
 ) -> Result<(), AllocError>
-    ensures { OnOk result (found.new.items ≡ found.old.items ++ holdings_faults chain all.now 0 all.now) }
+    ensures { Gains result found.old found.new (holdings_faults chain all.now 0 all.now) }
 {
     for (index, holding) in all.iter().enumerate() {
         let place = ScriptPlace::of(ScriptPart::Chain(chain))
@@ -64,7 +65,7 @@ fn held_twice(
     holding: &(UserName, Denom, u128),
     found: &mut Vec<ScriptFault>,
 ) -> Result<(), AllocError>
-    ensures { OnOk result (found.new.items ≡ found.old.items ++ twice_faults place before.now holding.now) }
+    ensures { Gains result found.old found.new (twice_faults place before.now holding.now) }
 {
     if is_held(before, holding) {
         note(found, place, FaultKind::HeldTwice)
@@ -100,7 +101,7 @@ fn too_much(
     found: &mut Vec<ScriptFault>,
 ) -> Result<(), AllocError>
     requires { index < length all.now }
-    ensures { OnOk result (found.new.items ≡ found.old.items ++ too_much_faults place denom.now index all.now) }
+    ensures { Gains result found.old found.new (too_much_faults place denom.now index all.now) }
 {
     if !are_small(&all[..index + 1], denom) && are_small(&all[..index], denom) {
         note(found, place.inside(2), FaultKind::TooMuch)

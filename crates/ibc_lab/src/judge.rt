@@ -1,11 +1,10 @@
 //! What is wrong with the JSON value of a script.
 
-ghost use Rattle.std.specs.Prelude.{◌≡◌, ◌<◌, ◌++◌, length, map, option_map, string_bytes, take, IfOk, OnOk};
-ghost use Rattle.std.specs.BTreeMap.{keys};
-ghost use Rattle.serde_json.specs.Find.{as_object};
+ghost use Rattle.std.specs.Prelude.{◌≡◌, ◌<◌, length, map, take, IfOk};
 ghost use Rattle.serde_json.specs.View.{view};
-ghost use Rattle.ibc_lab.specs.Faults.{are_one, chain_faults, chains_faults, each_faults, form_faults, is_owed, kindless_faults, leaf_faults, member_faults, members_faults, missing_faults, name_twice_faults, object_faults, one_chain_faults, parts_faults, script_faults, step_faults, steps_faults, tuple_faults, unknown_faults};
-ghost use Rattle.ibc_lab.specs.Values.{name_in, passes};
+ghost use Rattle.ibc_lab.specs.Faults.{Gains, are_one, chain_faults, chains_faults, form_faults, is_owed, leaf_faults, member_faults, members_faults, missing_faults, name_twice_faults, object_faults, one_chain_faults, script_faults, step_faults, steps_faults, tuple_faults, unknown_faults};
+ghost use Rattle.ibc_lab.specs.Judging.{each_flaws, flaws, kindless_flaws, parts_flaws, roll};
+ghost use Rattle.ibc_lab.specs.Values.{name_in, names_in, passes, text_behind};
 ghost use Rattle.ibc_lab.specs.Leaves.{is_known};
 
 use crate::fault::note;
@@ -50,7 +49,7 @@ struct Judge<'v> {
 impl Judge<'_> {
     // The steps.
     fn steps(&self, steps: &[Value], found: &mut Vec<ScriptFault>) -> Result<(), AllocError>
-        ensures { OnOk result (found.new.items ≡ found.old.items ++ steps_faults (map view self.now.chains.now) 0 (map view steps.now)) }
+        ensures { Gains result found.old found.new (steps_faults (roll self.now) 0 (map view steps.now)) }
     {
         for (index, step) in steps.iter().enumerate() {
             self.step(index, step, found)?;
@@ -64,7 +63,7 @@ impl Judge<'_> {
         step: &Value,
         found: &mut Vec<ScriptFault>,
     ) -> Result<(), AllocError>
-        ensures { OnOk result (found.new.items ≡ found.old.items ++ step_faults (map view self.now.chains.now) index (view step.now)) }
+        ensures { Gains result found.old found.new (step_faults (roll self.now) index (view step.now)) }
     {
         let place = ScriptPlace::of(ScriptPart::Step(index));
         match kind_in(step) {
@@ -80,7 +79,7 @@ impl Judge<'_> {
         step: &Value,
         found: &mut Vec<ScriptFault>,
     ) -> Result<(), AllocError>
-        ensures { OnOk result (found.new.items ≡ found.old.items ++ kindless_faults (map view self.now.chains.now) place (view step.now) (as_object (view step.now))) }
+        ensures { Gains result found.old found.new (kindless_flaws self.now place step.now) }
     {
         match step.as_object() {
             Some(_) => self.member(place, kind_owed(), step, found),
@@ -90,7 +89,7 @@ impl Judge<'_> {
 
     // The script's chains.
     fn chains(&self, found: &mut Vec<ScriptFault>) -> Result<(), AllocError>
-        ensures { OnOk result (found.new.items ≡ found.old.items ++ chains_faults (map view self.now.chains.now) 0 (map view self.now.chains.now)) }
+        ensures { Gains result found.old found.new (chains_faults (roll self.now) 0 (roll self.now)) }
     {
         for (index, chain) in self.chains.iter().enumerate() {
             self.chain(index, chain, found)?;
@@ -105,7 +104,7 @@ impl Judge<'_> {
         found: &mut Vec<ScriptFault>,
     ) -> Result<(), AllocError>
         requires { index < length self.now.chains.now }
-        ensures { OnOk result (found.new.items ≡ found.old.items ++ chain_faults (map view self.now.chains.now) index (view chain.now)) }
+        ensures { Gains result found.old found.new (chain_faults (roll self.now) index (view chain.now)) }
     {
         let place = ScriptPlace::of(ScriptPart::Chain(index));
         self.object(place, chain_owes(), chain, found)?;
@@ -120,7 +119,7 @@ impl Judge<'_> {
         found: &mut Vec<ScriptFault>,
     ) -> Result<(), AllocError>
         requires { index < length self.now.chains.now }
-        ensures { OnOk result (found.new.items ≡ found.old.items ++ name_twice_faults (map view self.now.chains.now) index (view chain.now)) }
+        ensures { Gains result found.old found.new (name_twice_faults (roll self.now) index (view chain.now)) }
     {
         if is_name_in(chains_before(self.chains, index), chain) {
             let place = ScriptPlace::of(ScriptPart::Chain(index)).member(Member::Name);
@@ -138,7 +137,7 @@ impl Judge<'_> {
         object: &Value,
         found: &mut Vec<ScriptFault>,
     ) -> Result<(), AllocError>
-        ensures { OnOk result (found.new.items ≡ found.old.items ++ object_faults (map view self.now.chains.now) place owed.now (view object.now)) }
+        ensures { Gains result found.old found.new (flaws self.now object_faults place owed.now object.now) }
     {
         match object.as_object() {
             Some(members) => {
@@ -157,7 +156,7 @@ impl Judge<'_> {
         members: &Map<String, Value>,
         found: &mut Vec<ScriptFault>,
     ) -> Result<(), AllocError>
-        ensures { OnOk result (found.new.items ≡ found.old.items ++ unknown_faults place owed.now (map string_bytes (keys members.now))) }
+        ensures { Gains result found.old found.new (unknown_faults place owed.now (names_in members.now)) }
     {
         for name in members.keys() {
             if !is_owed(owed, name.as_str()) {
@@ -176,7 +175,7 @@ impl Judge<'_> {
         object: &Value,
         found: &mut Vec<ScriptFault>,
     ) -> Result<(), AllocError>
-        ensures { OnOk result (found.new.items ≡ found.old.items ++ members_faults (map view self.now.chains.now) place owed.now (view object.now)) }
+        ensures { Gains result found.old found.new (flaws self.now members_faults place owed.now object.now) }
     {
         for owes in owed {
             self.member(place, *owes, object, found)?;
@@ -191,7 +190,7 @@ impl Judge<'_> {
         object: &Value,
         found: &mut Vec<ScriptFault>,
     ) -> Result<(), AllocError>
-        ensures { OnOk result (found.new.items ≡ found.old.items ++ member_faults (map view self.now.chains.now) place owed (view object.now)) }
+        ensures { Gains result found.old found.new (flaws self.now member_faults place owed object.now) }
     {
         match object.get(owed.member.name()) {
             Some(value) => self.form(place.member(owed.member), owed.form, value, found),
@@ -206,7 +205,7 @@ impl Judge<'_> {
         value: &Value,
         found: &mut Vec<ScriptFault>,
     ) -> Result<(), AllocError>
-        ensures { OnOk result (found.new.items ≡ found.old.items ++ form_faults (map view self.now.chains.now) place form (view value.now)) }
+        ensures { Gains result found.old found.new (flaws self.now form_faults place form value.now) }
     {
         match form {
             MemberForm::Leaf(leaf) => self.leaf(place, leaf, value, found),
@@ -234,7 +233,7 @@ impl Judge<'_> {
         value: &Value,
         found: &mut Vec<ScriptFault>,
     ) -> Result<(), AllocError>
-        ensures { OnOk result (found.new.items ≡ found.old.items ++ leaf_faults (map view self.now.chains.now) place leaf (view value.now)) }
+        ensures { Gains result found.old found.new (flaws self.now leaf_faults place leaf value.now) }
     {
         if leaf.fits(self.alloc, self.chains, value)? {
             Ok(())
@@ -251,7 +250,7 @@ impl Judge<'_> {
         items: &[Value],
         found: &mut Vec<ScriptFault>,
     ) -> Result<(), AllocError>
-        ensures { OnOk result (found.new.items ≡ found.old.items ++ each_faults (map view self.now.chains.now) place tuple 0 (map view items.now)) }
+        ensures { Gains result found.old found.new (each_flaws self.now place tuple items.now) }
     {
         for (index, item) in items.iter().enumerate() {
             self.tuple(place.inside(index), tuple, item, found)?;
@@ -267,7 +266,7 @@ impl Judge<'_> {
         value: &Value,
         found: &mut Vec<ScriptFault>,
     ) -> Result<(), AllocError>
-        ensures { OnOk result (found.new.items ≡ found.old.items ++ tuple_faults (map view self.now.chains.now) place tuple (view value.now)) }
+        ensures { Gains result found.old found.new (flaws self.now tuple_faults place tuple value.now) }
     {
         let parts = tuple.parts();
         let Some(items) = items_in(value) else {
@@ -289,7 +288,7 @@ impl Judge<'_> {
         found: &mut Vec<ScriptFault>,
     ) -> Result<(), AllocError>
         requires { length items.now ≡ length parts.now }
-        ensures { OnOk result (found.new.items ≡ found.old.items ++ parts_faults (map view self.now.chains.now) place 0 parts.now (map view items.now)) }
+        ensures { Gains result found.old found.new (parts_flaws self.now place parts.now items.now) }
     {
         for (index, item) in items.iter().enumerate() {
             self.leaf(place.inside(index), parts[index], item, found)?;
@@ -330,7 +329,7 @@ fn is_owed(owed: &[Owed], name: &str) -> bool
 
 // A member that isn't there.
 fn missing(place: ScriptPlace, owed: Owed, found: &mut Vec<ScriptFault>) -> Result<(), AllocError>
-    ensures { OnOk result (found.new.items ≡ found.old.items ++ missing_faults place owed) }
+    ensures { Gains result found.old found.new (missing_faults place owed) }
 {
     if owed.optional {
         Ok(())
@@ -345,7 +344,7 @@ fn one_chain(
     value: &Value,
     found: &mut Vec<ScriptFault>,
 ) -> Result<(), AllocError>
-    ensures { OnOk result (found.new.items ≡ found.old.items ++ one_chain_faults place (view value.now)) }
+    ensures { Gains result found.old found.new (one_chain_faults place (view value.now)) }
 {
     if are_one(item_text(value, 0), item_text(value, 1)) {
         note(found, place, FaultKind::OneChain)
@@ -355,7 +354,7 @@ fn one_chain(
 }
 
 fn are_one(first: Option<&str>, second: Option<&str>) -> bool
-    ensures { result ≡ are_one (option_map (λ text. text.now) first.entry) (option_map (λ text. text.now) second.entry) }
+    ensures { result ≡ are_one (text_behind first.entry) (text_behind second.entry) }
 {
     let Some(first) = first else {
         return false;

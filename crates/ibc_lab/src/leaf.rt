@@ -1,10 +1,10 @@
 //! Forms of values that have no parts of their own.
 
-ghost use Rattle.std.specs.Prelude.{◌≡◌, map, option_and_then, IfOk};
-ghost use Rattle.serde_json.specs.Find.{as_number, as_str, as_u64};
+ghost use Rattle.std.specs.Prelude.{◌≡◌, map, IfOk};
+ghost use Rattle.serde_json.specs.Find.{as_str};
 ghost use Rattle.serde_json.specs.View.{view};
 ghost use Rattle.ibc_lab.specs.Texts.{is_base64, text_fits};
-ghost use Rattle.ibc_lab.specs.Values.{items_in, passes};
+ghost use Rattle.ibc_lab.specs.Values.{items_in, passes, whole_number};
 ghost use Rattle.ibc_lab.specs.Leaves.{has_length, is_known, is_named, is_within, leaf_fits};
 
 use crate::TextForm;
@@ -108,7 +108,7 @@ fn is_base64(alloc: Global, text: &str) -> Result<bool, AllocError>
 }
 
 fn is_number(least: u64, most: u64, value: &Value) -> bool
-    ensures { result ≡ passes (is_within least most) (option_and_then as_u64 (as_number (view value.now))) }
+    ensures { result ≡ passes (is_within least most) (whole_number value.now) }
 {
     match value.as_u64() {
         Some(number) => least <= number && number <= most,

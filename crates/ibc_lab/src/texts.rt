@@ -1,9 +1,9 @@
 //! Which texts have which form.
 
-ghost use Rattle.std.specs.Prelude.{◌≡◌, ◌∷◌, [], MatchOption};
+ghost use Rattle.std.specs.Prelude.{◌≡◌, MatchOption};
 ghost use Rattle.std.specs.List.{list_all, slice_split};
 ghost use Rattle.ibc_ids.specs.Names.{is_made_of, is_slash, is_letter_or_digit, is_base_denom};
-ghost use Rattle.ibc_lab.specs.Texts.{after_channel, after_channels, after_kind, after_second, after_third, has_leading_zero, is_application, is_at_most, is_counter, is_decimal_to, is_digit, is_last_sequence, is_not_above, is_order, is_packet_kind, is_path, is_record_kind, text_fits};
+ghost use Rattle.ibc_lab.specs.Texts.{IsOnePart, IsSplitAtSlash, after_channel, after_channels, after_kind, after_second, after_third, has_leading_zero, is_application, is_at_most, is_counter, is_decimal_to, is_digit, is_last_sequence, is_not_above, is_order, is_packet_kind, is_path, is_record_kind, text_fits};
 
 use crate::{StepKind, TextForm};
 use ibc_ids::{
@@ -126,7 +126,7 @@ fn is_decimal_to(most: &str, text: &str) -> bool
 
 // What stands before the first slash, and what stands behind it.
 fn split_at_slash(text: &str) -> Option<(&str, &str)>
-    ensures { MatchOption result (slice_split is_slash text.now ≡ text.now ∷ []) (λ parts. slice_split is_slash text.now ≡ parts.0.now ∷ slice_split is_slash parts.1.now) }
+    ensures { MatchOption result (IsOnePart text.now) (IsSplitAtSlash text.now) }
 {
     text.split_once('/')
 }

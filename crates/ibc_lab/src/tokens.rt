@@ -1,8 +1,9 @@
 //! Tokens whose denominations have to rise.
 
-ghost use Rattle.std.specs.Prelude.{◌≡◌, ◌++◌, map, option_map, OnOk};
+ghost use Rattle.std.specs.Prelude.{◌≡◌, map};
 ghost use Rattle.serde_json.specs.View.{view};
-ghost use Rattle.ibc_lab.specs.Faults.{is_greater, is_less, rise, rise_after, rising_faults};
+ghost use Rattle.ibc_lab.specs.Faults.{Gains, is_greater, is_less, rise, rise_after, rising_faults};
+ghost use Rattle.ibc_lab.specs.Values.{text_behind};
 
 use crate::fault::note;
 use crate::values::item_text;
@@ -17,7 +18,7 @@ pub fn rising(
     tokens: &[Value],
     found: &mut Vec<ScriptFault>,
 ) -> Result<(), AllocError>
-    ensures { OnOk result (found.new.items ≡ found.old.items ++ rising_faults place (map view tokens.now)) }
+    ensures { Gains result found.old found.new (rising_faults place (map view tokens.now)) }
 {
     if rise(tokens) {
         Ok(())
@@ -51,7 +52,7 @@ fn rise_after(first: &Value, rest: &[Value]) -> bool
 
 // Whether the second text is greater in byte order, where both are there.
 fn is_greater(first: Option<&str>, second: Option<&str>) -> bool
-    ensures { result ≡ is_greater (option_map (λ text. text.now) first.entry) (option_map (λ text. text.now) second.entry) }
+    ensures { result ≡ is_greater (text_behind first.entry) (text_behind second.entry) }
 {
     let Some(first) = first else {
         return true;

@@ -1,9 +1,9 @@
 //! The hashes of four leaves (ICS 23, "LeafOp").
 
-ghost use Rattle.std.specs.Prelude.{◌≡◌, ◌+◌, ◌<◌, [], ◌∷◌, length, slice_index_or, take};
+ghost use Rattle.std.specs.Prelude.{◌≡◌, ◌+◌, ◌<◌, [], ◌∷◌, length, take};
 ghost use Rattle.ibc_merkle.specs.Hash.{hash};
 ghost use Rattle.ibc_lanes.specs.Inner.{four_more};
-ghost use Rattle.ibc_lanes.specs.Leaves.{hash_of_leaf, text_of_leaf};
+ghost use Rattle.ibc_lanes.specs.Leaves.{text_of_leaf, AreLeafHashes};
 
 use crate::count::count_four;
 use crate::texts::digest_four;
@@ -37,8 +37,7 @@ pub fn hash_four_leaves(
     values: &[[u8; 32]; 4],
     steps: &mut Steps,
 ) -> [[u8; 32]; 4]
-    ensures digests { result ≡ hash_of_leaf first.now (slice_index_or values.now 0 []) ∷ hash_of_leaf second.now (slice_index_or values.now 1 [])
-        ∷ hash_of_leaf third.now (slice_index_or values.now 2 []) ∷ hash_of_leaf fourth.now (slice_index_or values.now 3 []) ∷ [] }
+    ensures digests { AreLeafHashes first.now second.now third.now fourth.now values.now result }
     ensures steps { steps.new ≡ four_more steps.old }
 {
     if first.len() >= LONG || second.len() >= LONG || third.len() >= LONG || fourth.len() >= LONG {
@@ -65,8 +64,7 @@ fn digest_short_leaves(
     requires second { length second.now < 128 }
     requires third { length third.now < 128 }
     requires fourth { length fourth.now < 128 }
-    ensures { result ≡ hash_of_leaf first.now (slice_index_or values.now 0 []) ∷ hash_of_leaf second.now (slice_index_or values.now 1 [])
-        ∷ hash_of_leaf third.now (slice_index_or values.now 2 []) ∷ hash_of_leaf fourth.now (slice_index_or values.now 3 []) ∷ [] }
+    ensures { AreLeafHashes first.now second.now third.now fourth.now values.now result }
 {
     let texts = [
         short_leaf(first, &values[0]),

@@ -1,8 +1,8 @@
 //! The words of a block of each of four texts (FIPS 180-4, section 5.2.1).
 
-ghost use Rattle.std.specs.Prelude.{◌≡◌, ℕ, ◌+◌, ◌<◌, ◌≤◌, [], drop, slice_index, slice_index_or, take};
-ghost use Rattle.sha2.specs.Sha256.{first_words, word_at};
-ghost use Rattle.ibc_lanes.specs.Lanes.{lane_words};
+ghost use Rattle.std.specs.Prelude.{◌≡◌, ℕ, ◌+◌, ◌<◌, ◌≤◌, [], slice_index, slice_index_or};
+ghost use Rattle.sha2.specs.Sha256.{word_at};
+ghost use Rattle.ibc_lanes.specs.Lanes.{HasBlockWords};
 
 use std::simd::u32x4;
 
@@ -31,8 +31,7 @@ fn words_of<const N: usize>(texts: &[[u8; N]; 4], at: usize) -> u32x4
 // The words of the blocks of each text from a place on.
 pub(crate) fn block_words<const N: usize>(texts: &[[u8; N]; 4], start: usize) -> [u32x4; 16]
     requires { start + 64 ≤ N }
-    ensures { (j : ℕ) → j < 4
-        → lane_words j result ≡ first_words (take 64 (drop start (slice_index_or texts.now j []))) 16 }
+    ensures { HasBlockWords texts.now start result }
 {
     let mut words = [u32x4::splat(0); 16];
     'load: for i in 0..16 {

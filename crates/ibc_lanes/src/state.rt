@@ -1,8 +1,8 @@
 //! The hash values of four texts, before the first block and behind the last.
 
-ghost use Rattle.std.specs.Prelude.{◌≡◌, ℕ, ◌<◌, [], ◌∷◌};
+ghost use Rattle.std.specs.Prelude.{◌≡◌, ℕ, ◌<◌};
 ghost use Rattle.sha2.specs.Sha256.{digest_bytes, initial_hash_256};
-ghost use Rattle.ibc_lanes.specs.Lanes.{lane};
+ghost use Rattle.ibc_lanes.specs.Lanes.{lane, lane_digests};
 
 use crate::constants::INITIAL_HASH;
 use std::simd::u32x4;
@@ -38,8 +38,7 @@ fn lane_digest(state: &[u32x4; 8], j: usize) -> [u8; 32]
 
 // The hash values of all lanes, as bytes.
 pub(crate) fn digests(state: &[u32x4; 8]) -> [[u8; 32]; 4]
-    ensures { result ≡ digest_bytes (lane 0 state.now) 8 ∷ digest_bytes (lane 1 state.now) 8
-        ∷ digest_bytes (lane 2 state.now) 8 ∷ digest_bytes (lane 3 state.now) 8 ∷ [] }
+    ensures { result ≡ lane_digests state.now }
 {
     [
         lane_digest(state, 0),

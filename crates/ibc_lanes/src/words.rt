@@ -3,6 +3,7 @@
 ghost use Rattle.std.specs.Prelude.{◌≡◌, ℕ, ◌/◌, ◌^◌, ◌<◌, bit_xor, slice_index};
 ghost use Rattle.std.specs.Int.{w32, rotate_right};
 ghost use Rattle.sha2.specs.Sha256.{add32, big_sigma0, big_sigma1, ch, maj, small_sigma0, small_sigma1};
+ghost use Rattle.ibc_lanes.specs.Lanes.{ActsInEachLane};
 
 use std::simd::u32x4;
 
@@ -40,7 +41,7 @@ fn rotated(x: u32x4, count: u32) -> u32x4
 
 #[inline(always)]
 pub(crate) fn choices(x: u32x4, y: u32x4, z: u32x4) -> u32x4
-    ensures { (j : ℕ) → j < 4 → slice_index result j ≡ ch (slice_index x j) (slice_index y j) (slice_index z j) }
+    ensures { ActsInEachLane ch x y z result }
 {
     (x & y) ^ (!x & z)
 }
@@ -48,7 +49,7 @@ pub(crate) fn choices(x: u32x4, y: u32x4, z: u32x4) -> u32x4
 // The next round has this round's `x ^ y` as its `y ^ z`, so it is computed once.
 #[inline(always)]
 pub(crate) fn majorities(x: u32x4, y: u32x4, z: u32x4) -> u32x4
-    ensures { (j : ℕ) → j < 4 → slice_index result j ≡ maj (slice_index x j) (slice_index y j) (slice_index z j) }
+    ensures { ActsInEachLane maj x y z result }
 {
     y ^ ((x ^ y) & (y ^ z))
 }

@@ -1,5 +1,5 @@
 -- Laws of a lane that don't hold with one packet more.
-use Rattle.std.proofs.Common.{◌≡◌, ◌≢◌, ℕ, ◌+◌, Bool, true, false, refl, sym, ap, ◌∙◌, subst, List, [], ◌∷◌, ◌++◌, append_assoc, append-nil, length, Some, slice_get, ◌⊎◌, inl, inr, nat_eq, Contains, IsTrue}
+use Rattle.std.proofs.Common.{◌≡◌, ℕ, ◌+◌, true, false, sym, ap, subst, List, [], ◌∷◌, ◌++◌, append_assoc, append-nil, length, Some, slice_get, ◌⊎◌, inl, inr, nat_eq, Contains, IsTrue}
 use Rattle.std.specs.List.{IsDistinct}
 use Rattle.std.proofs.lemmas.List.Elements.{Contains-push}
 use Rattle.ibc_wire.specs.declared.packet.Packet.{Packet}

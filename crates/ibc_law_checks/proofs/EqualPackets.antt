@@ -1,5 +1,5 @@
 -- The test of two packets tells whether they are one.
-use Rattle.std.proofs.Common.{◌≡◌, ℕ, Bool, true, refl, sym, ap, subst, List, ◌&&◌, ◌==◌, eqb-true}
+use Rattle.std.proofs.Common.{◌≡◌, ℕ, true, refl, List, ◌==◌, eqb-true}
 use Rattle.std.specs.Str.{bytes_eq}
 use Rattle.std.proofs.lemmas.Slice.Eq.{bytes_eq-Decides}
 use Rattle.ibc_wire.specs.declared.packet.Packet.{Packet}

@@ -1,10 +1,9 @@
 -- What the first broken law of a lane says of its laws.
-use Rattle.std.proofs.Common.{◌≡◌, ℕ, ◌+◌, ◌-◌, ◌==◌, ◌||◌, Bool, true, false, not, refl, sym, ap, ◌∙◌, subst, List, length, Option, None, Some, slice_get, inl, inr, arith, Contains, IsTrue, MatchOption, if◌then◌else◌, eqb-true}
+use Rattle.std.proofs.Common.{◌≡◌, ℕ, ◌+◌, ◌-◌, ◌==◌, Bool, true, false, not, refl, sym, ap, subst, List, length, Option, None, Some, slice_get, arith, Contains, IsTrue, MatchOption, if◌then◌else◌, eqb-true}
 use Rattle.std.specs.Option.{option_map_or}
 use Rattle.ibc_wire.specs.declared.packet.Packet.{Packet}
 use Rattle.ibc_laws.proofs.basics.PassedTests.{implied, or_false, either}
 use Rattle.ibc_laws.proofs.basics.Lists.{lemma_got_contains}
-use Rattle.ibc_law_checks.specs.declared.finding.PacketLaw.{PacketLaw}
 use Rattle.ibc_law_checks.specs.declared.finding.PacketLaw.TheVariants as law
 use Rattle.ibc_law_checks.specs.SamePackets.{same_packet}
 use Rattle.ibc_law_checks.specs.PacketTests.{has_sequence, stands_at}

@@ -1,13 +1,11 @@
 -- Lists of packets with one more, and their sequences.
 use Rattle.std.proofs.Common.{◌≡◌, ℕ, zero, suc, ◌+◌, ◌-◌, ◌<◌, Bool, true, false, refl, sym, ap, ◌∙◌, subst, List, [], ◌∷◌, ◌++◌, append_assoc, get_or, length, Some, None, slice_get, ◌⊎◌, inl, inr, arith, ◌||◌, ◌==◌, nat_eq, Contains, eqb-true}
 use Rattle.std.specs.List.{IsDistinct, AllByRecursion}
-use Rattle.std.proofs.lemmas.List.Elements.{Contains-push, Contains-append_left}
 use Rattle.ibc_wire.specs.declared.packet.Packet.{Packet}
 use Rattle.ibc_machine.specs.chain.Records.{is_one_of}
 use Rattle.ibc_machine.specs.promises.Histories.{sequences}
 use Rattle.ibc_machine.specs.promises.Laws.{IsBeginning}
-use Rattle.ibc_laws.proofs.basics.PassedTests.{or_false, either}
-use Rattle.ibc_laws.proofs.basics.Lists.{lemma_got_contains}
+use Rattle.ibc_laws.proofs.basics.PassedTests.{or_false}
 use Rattle.ibc_law_checks.specs.Lanes.{AreCounted}
 
 pub sequences-push : (ps : List Packet) (p : Packet) → sequences (ps ++ p ∷ []) ≡ sequences ps ++ p.sequence ∷ []

@@ -2,6 +2,7 @@
 use Rattle.std.specs.Prelude.{ℕ, Bool, true, ◌==◌, ◌&&◌, ◌||◌, ◌+◌, ◌-◌, ◌^◌, min, nat_lt, List, slice_get}
 use Rattle.std.specs.Option.{option_map_or}
 use Rattle.ibc_wire.specs.declared.packet.Packet.{Packet}
+use Rattle.ibc_laws.specs.Ends.{IsAhead}
 use Rattle.ibc_law_checks.specs.declared.ends.ChainClock.{ChainClock}
 
 -- a timeout that is none, or lies ahead
@@ -10,6 +11,10 @@ is_ahead timeout now = (timeout == 0) || nat_lt now timeout
 
 abbrev pub is_in_time : Packet → ℕ → ℕ → Bool
 is_in_time p height time = is_ahead p.timeout_height height && is_ahead p.timeout_time time
+
+-- both timeouts of a packet lie ahead of a block of this height and time (ICS 4, recvPacket)
+abbrev pub AreTimeoutsAhead : Packet → ℕ → ℕ → Type 0
+AreTimeoutsAhead p height time = IsAhead p.timeout_height height × IsAhead p.timeout_time time
 
 -- the height of the working block behind the last height
 abbrev pub working_height : ChainClock → ℕ

@@ -1,5 +1,5 @@
 -- What happened to the packets that go one way over a channel, and the laws of it (ICS 4, "Desired Properties").
-use Rattle.std.specs.Prelude.{◌≡◌, ℕ, ◌+◌, ◌-◌, ◌==◌, ◌||◌, Bool, not, List, [], ◌∷◌, ◌++◌, Option, None, Some, IsTrue, nat_eq, length, slice_get, Contains, if◌then◌else◌}
+use Rattle.std.specs.Prelude.{◌≡◌, ℕ, ◌+◌, ◌-◌, ◌==◌, ◌||◌, Bool, not, List, [], ◌∷◌, ◌++◌, Option, None, Some, Result, IfOk, MatchOption, IsTrue, nat_eq, length, slice_get, Contains, if◌then◌else◌}
 use Rattle.std.specs.List.{IsDistinct}
 use Rattle.ibc_wire.specs.declared.packet.Packet.{Packet}
 use Rattle.ibc_machine.specs.chain.Records.{Channel}
@@ -68,6 +68,15 @@ Holds law.AcknowledgedInOrder lane = IsTrue lane.ordered → IsBeginning lane.ac
 -- each law holds
 pub record IsLawfulLane (lane : LaneState) : Type 0 where
   pub holds : (each : PacketLaw) → Holds each lane
+
+-- this law doesn't hold of the lane; where none is told each does
+abbrev pub IsToldOfLane : LaneState → Option PacketLaw → Type 0
+IsToldOfLane lane told = MatchOption told (IsLawfulLane lane) (λ law. ¬ (Holds law lane))
+
+-- the lane is this one; or it stays, since a law is told that wouldn't hold of it
+abbrev pub BecomesUnless : {E : Type 0} → LaneState → LaneState → Result (Option PacketLaw) E → LaneState → Type 0
+BecomesUnless old more result new =
+    IfOk result (λ broken. MatchOption broken (new ≡ more) (λ law. (new ≡ old) × ¬ (Holds law more)))
 
 -- ---- the first law that one packet more would break
 

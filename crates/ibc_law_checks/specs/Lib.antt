@@ -12,3 +12,4 @@ pub mod Movements
 pub mod MovedLanes
 pub mod TouchedPlaces
 pub mod ToldEntries
+pub mod Looks

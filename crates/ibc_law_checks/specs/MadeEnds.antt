@@ -1,5 +1,5 @@
 -- Which ends of channels entries made (ICS 4, "chanOpenInit" and "chanOpenTry").
-use Rattle.std.specs.Prelude.{ℕ, List, [], ◌∷◌, map, Option, None, Some}
+use Rattle.std.specs.Prelude.{ℕ, List, [], ◌∷◌, map, Option, None, Some, option_map}
 use Rattle.ibc_ids.specs.Texts.{Text}
 use Rattle.ibc_wire.specs.declared.records.Order.{Order}
 use Rattle.ibc_wire.specs.declared.records.Order.TheVariants.{Ordered}
@@ -14,11 +14,16 @@ use Rattle.ibc_machine.specs.declared.reply.Reply.{Reply}
 use Rattle.ibc_machine.specs.declared.reply.Reply.TheVariants as reply
 use Rattle.ibc_machine.specs.ics24.Values.{same_order}
 use Rattle.ibc_law_checks.specs.declared.ends.EndNotes.{EndNotes}
+use Rattle.ibc_law_checks.specs.declared.made.MadeEnd.{MadeEnd as FoundEnd}
 use Rattle.ibc_law_checks.specs.Lanes.{LaneState, new_lane}
 
 -- port, channel and order of the end that an accepted message made
 abbrev pub MadeEnd : Type 0
 MadeEnd = Text × Text × Order
+
+-- the end that was found, where there is one
+abbrev pub abstract_made : Option FoundEnd → Option MadeEnd
+abstract_made found = option_map (λ made. (made.port.now, made.channel.now, made.order)) found
 
 abbrev pub made_by : Message → Effect → Option MadeEnd
 made_by (message.ChanOpenInit m) (effect.Channel channel) = Some (m.port, channel, m.order)

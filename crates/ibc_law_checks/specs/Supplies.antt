@@ -1,5 +1,5 @@
 -- Whether supplies at home are those of the genesis (ICS 20, "Correctness": total supply).
-use Rattle.std.specs.Prelude.{◌≡◌, ℕ, ◌==◌, Bool, true, false, List, All, MatchOption, Option, Some, slice_get, take, IsTrue, IsSomeAnd}
+use Rattle.std.specs.Prelude.{◌≡◌, ℕ, ◌==◌, Bool, false, List, All, MatchOption, Option, slice_get, take, IsTrue, IsSomeAnd}
 use Rattle.std.specs.Option.{option_map_or}
 use Rattle.ibc_ids.specs.Texts.{Text}
 use Rattle.ibc_machine.specs.ics20.Bank.{supply}

@@ -1,5 +1,5 @@
 -- Whether escrows hold just what is out (ICS 20, "Correctness").
-use Rattle.std.specs.Prelude.{◌≡◌, ℕ, ◌==◌, ◌+◌, ◌||◌, Bool, true, false, not, List, All, MatchOption, Option, Some, Ok, Err, slice_get, take, IsTrue, IsSomeAnd}
+use Rattle.std.specs.Prelude.{◌≡◌, ℕ, ◌==◌, ◌+◌, ◌||◌, Bool, true, false, not, List, All, MatchOption, Option, Ok, Err, slice_get, take, IsTrue, IsSomeAnd}
 use Rattle.ibc_ids.specs.Texts.{Text}
 use Rattle.ibc_ids.specs.declared.refusal.Refusal.{Refusal}
 use Rattle.ibc_ids.specs.declared.refusal.Refusal.TheVariants.{TooLarge}

@@ -1,15 +1,13 @@
 //! What happens in a world is looked at, event by event.
 
-ghost use Rattle.std.specs.Prelude.{◌≡◌, ◌++◌, ◌∷◌, ℕ, [], IfOk, OnOk, true};
+ghost use Rattle.std.specs.Prelude.{◌≡◌, ◌++◌, ℕ, IfOk, OnOk, true};
 ghost use Rattle.ibc_wire.specs.declared.records.Order.TheVariants.{Ordered};
 ghost use Rattle.ibc_machine.specs.ics24.Values.{same_order};
 ghost use Rattle.ibc_machine.specs.promises.Laws.{settles};
-ghost use Rattle.ibc_law_checks.specs.Lanes.{new_lane};
-ghost use Rattle.ibc_law_checks.specs.MadeEnds.{end_names, made_lanes, made_names};
-ghost use Rattle.ibc_law_checks.specs.MovedLanes.{AreLanesAccepted, AreLanesAfter, AreMoved};
-ghost use Rattle.ibc_law_checks.specs.Movements.{moved_by};
-ghost use Rattle.ibc_law_checks.specs.ToldEntries.{AreTokensTold, IsToldOf, IsToldOfAccepted, IsToldOfBlock, IsToldOfRefusal, is_poor};
-ghost use Rattle.ibc_law_checks.specs.TouchedPlaces.{places_accepted, places_after, places_of_block, settled_places, touched_with, with_sent_tokens};
+ghost use Rattle.ibc_law_checks.specs.MadeEnds.{made_lanes};
+ghost use Rattle.ibc_law_checks.specs.ToldEntries.{IsToldOfRefusal, is_poor};
+ghost use Rattle.ibc_law_checks.specs.TouchedPlaces.{settled_places};
+ghost use Rattle.ibc_law_checks.specs.Looks.{NotesMadeEnd, NotesEnd, NotesLane, LookMovesLanes, EntryMovesLanes, EntrySetsPlaces, EntryIsTold, EventMovesLanes, EventSetsPlaces, EventIsTold, BlockSetsPlaces, BlockIsTold, TokensAreTold, MessageMovesLanes, MessageSetsPlaces};
 
 mod carrying;
 mod moving;
@@ -105,10 +103,10 @@ impl LawChecks {
         chain: u8,
         entry: &Entry,
     ) -> Result<Option<Finding>, Refusal>
-        ensures ends { IfOk result (λ _. end_names self.new.ends.items ≡ end_names self.old.ends.items ++ made_names chain entry.now) }
-        ensures lanes { IfOk result (λ found. AreLanesAfter world.now self.new.ends.items self.old.clocks.items chain entry.now (self.old.lanes.items ++ made_lanes entry.now) found self.new.lanes.items) }
-        ensures places { IfOk result (λ found. self.new.places.items ≡ places_after world.now self.new.ends.items self.old.clocks.items chain found entry.now self.old.places.items) }
-        ensures told { IfOk result (IsToldOf world.now self.old.places.items self.old.supplies.items entry.now.event entry.now.reply) }
+        ensures ends { IfOk result (λ _. NotesMadeEnd self.old chain entry.now self.new) }
+        ensures lanes { LookMovesLanes world.now chain entry.now self.old result self.new }
+        ensures places { EntrySetsPlaces world.now chain entry.now self.old result self.new }
+        ensures told { EntryIsTold world.now entry.now self.old result }
     {
         self.note_made(chain, entry)?;
         self.look_at(world, chain, entry)
@@ -116,7 +114,7 @@ impl LawChecks {
 
     // Notes the end of a channel that an entry made.
     fn note_made(&mut self, chain: u8, entry: &Entry) -> Result<(), Refusal>
-        ensures ends { OnOk result (end_names self.new.ends.items ≡ end_names self.old.ends.items ++ made_names chain entry.now) }
+        ensures ends { OnOk result (NotesMadeEnd self.old chain entry.now self.new) }
         ensures lanes { OnOk result (self.new.lanes.items ≡ self.old.lanes.items ++ made_lanes entry.now) }
         ensures clocks { self.new.clocks ≡ self.old.clocks }
         ensures places { self.new.places ≡ self.old.places }
@@ -131,8 +129,8 @@ impl LawChecks {
     // Notes a new end of a channel.
     #[tactic(auto, using(crate::proofs::NotedEnds::ends_push))]
     fn note_end(&mut self, chain: u8, made: MadeEnd<'_>) -> Result<(), Refusal>
-        ensures ends { OnOk result (end_names self.new.ends.items ≡ end_names self.old.ends.items ++ (chain, made.entry.port.now, made.entry.channel.now) ∷ []) }
-        ensures lanes { OnOk result (self.new.lanes.items ≡ self.old.lanes.items ++ new_lane (same_order made.entry.order Ordered) ∷ []) }
+        ensures ends { OnOk result (NotesEnd self.old chain made.entry self.new) }
+        ensures lanes { OnOk result (NotesLane self.old made.entry.order self.new) }
         ensures clocks { self.new.clocks ≡ self.old.clocks }
         ensures places { self.new.places ≡ self.old.places }
         ensures supplies { self.new.supplies ≡ self.old.supplies }
@@ -154,7 +152,7 @@ impl LawChecks {
     /// Looks at all places and all supplies, whether anything moved there or not. Where nothing is told they are as they must be,
     /// and else one isn't. Refused: `NoMemory`.
     pub fn look_at_all(&mut self, world: &World) -> Result<Option<Finding>, Refusal>
-        ensures { IfOk result (AreTokensTold world.now true self.old.places.items self.old.supplies.items) }
+        ensures { TokensAreTold world.now true self.old result }
     {
         self.look_at_tokens(world, true)
     }
@@ -163,8 +161,8 @@ impl LawChecks {
     fn look_at_tokens(&mut self, world: &World, all: bool) -> Result<Option<Finding>, Refusal>
         ensures same { self.new.ends ≡ self.old.ends }
         ensures lanes { self.new.lanes ≡ self.old.lanes }
-        ensures places { IfOk result (λ found. self.new.places.items ≡ settled_places found self.old.places.items) }
-        ensures told { IfOk result (AreTokensTold world.now all self.old.places.items self.old.supplies.items) }
+        ensures places { IfOk result (λ f. self.new.places.items ≡ settled_places f self.old.places.items) }
+        ensures told { TokensAreTold world.now all self.old result }
     {
         if let Some(index) = first_unbalanced(world, self.places.as_slice(), all)? {
             return Ok(Some(self.of_place(index)?));
@@ -184,9 +182,9 @@ impl LawChecks {
         entry: &Entry,
     ) -> Result<Option<Finding>, Refusal>
         ensures same { self.new.ends ≡ self.old.ends }
-        ensures lanes { IfOk result (λ found. AreLanesAfter world.now self.new.ends.items self.old.clocks.items chain entry.now self.old.lanes.items found self.new.lanes.items) }
-        ensures places { IfOk result (λ found. self.new.places.items ≡ places_after world.now self.new.ends.items self.old.clocks.items chain found entry.now self.old.places.items) }
-        ensures told { IfOk result (IsToldOf world.now self.old.places.items self.old.supplies.items entry.now.event entry.now.reply) }
+        ensures lanes { EntryMovesLanes world.now chain entry.now self.old result self.new }
+        ensures places { EntrySetsPlaces world.now chain entry.now self.old result self.new }
+        ensures told { EntryIsTold world.now entry.now self.old result }
     {
         match &entry.reply {
             Reply::Ok(effect) => self.look_at_accepted(world, chain, &entry.event, effect),
@@ -203,9 +201,9 @@ impl LawChecks {
         effect: &Effect,
     ) -> Result<Option<Finding>, Refusal>
         ensures same { self.new.ends ≡ self.old.ends }
-        ensures lanes { IfOk result (λ found. AreLanesAccepted world.now self.new.ends.items self.old.clocks.items chain event.now effect.now self.old.lanes.items found self.new.lanes.items) }
-        ensures places { IfOk result (λ found. self.new.places.items ≡ places_accepted world.now self.new.ends.items self.old.clocks.items chain found event.now effect.now self.old.places.items) }
-        ensures told { IfOk result (IsToldOfAccepted world.now self.old.places.items self.old.supplies.items event.now effect.now) }
+        ensures lanes { EventMovesLanes world.now chain event.now effect.now self.old result self.new }
+        ensures places { EventSetsPlaces world.now chain event.now effect.now self.old result self.new }
+        ensures told { EventIsTold world.now event.now effect.now self.old result }
     {
         match event {
             Event::Message { message, .. } => self.look_at_message(world, chain, message, effect),
@@ -223,8 +221,8 @@ impl LawChecks {
     ) -> Result<Option<Finding>, Refusal>
         ensures same { self.new.ends ≡ self.old.ends }
         ensures lanes { self.new.lanes ≡ self.old.lanes }
-        ensures places { IfOk result (λ found. self.new.places.items ≡ places_of_block found effect.now self.old.places.items) }
-        ensures told { IfOk result (IsToldOfBlock world.now self.old.places.items self.old.supplies.items effect.now) }
+        ensures places { BlockSetsPlaces effect.now self.old result self.new }
+        ensures told { BlockIsTold world.now effect.now self.old result }
     {
         match effect {
             Effect::Block(height, _) => {
@@ -274,8 +272,8 @@ impl LawChecks {
         effect: &Effect,
     ) -> Result<Option<Finding>, Refusal>
         ensures same { self.new.ends ≡ self.old.ends }
-        ensures lanes { IfOk result (λ found. AreMoved (moved_by world.now self.new.ends.items self.old.clocks.items chain message.now effect.now) self.old.lanes.items found self.new.lanes.items) }
-        ensures places { IfOk result (λ found. self.new.places.items ≡ touched_with world.now self.new.ends.items (moved_by world.now self.new.ends.items self.old.clocks.items chain message.now effect.now) (with_sent_tokens chain message.now self.old.places.items)) }
+        ensures lanes { MessageMovesLanes world.now chain message.now effect.now self.old result self.new }
+        ensures places { MessageSetsPlaces world.now chain message.now effect.now self.old result self.new }
     {
         let movement = self.moved_by(world, chain, message, effect)?;
         match note_sent_tokens(&mut self.places, chain, message) {

@@ -1,7 +1,8 @@
 //! What happened to the packets that go one way over a channel.
 
-ghost use Rattle.std.specs.Prelude.{◌≡◌, IfOk, MatchOption, OnErr, length};
+ghost use Rattle.std.specs.Prelude.{◌≡◌, IfOk, OnErr, length};
 ghost use Rattle.ibc_law_checks.specs.PacketTests.{has_sequence, stands_at};
+ghost use Rattle.ibc_law_checks.specs.Lanes.{IsToldOfLane, BecomesUnless};
 
 use crate::same_packet::is_same;
 use crate::{PacketLaw, Passing};
@@ -64,7 +65,7 @@ fn stands_at(packets: &[Packet], place: usize, packet: &Packet) -> bool
 
 impl Lane {
     ghost use Rattle.ibc_law_checks.specs.MovedLanes.{IsPassed};
-    ghost use Rattle.ibc_law_checks.specs.Lanes.{Holds, IsLawfulLane, broken_by_acknowledging, broken_by_receiving, broken_by_sending, broken_by_timing_out, is_next, is_settled, new_lane, was_sent, with_acknowledged, with_received, with_sent, with_timed_out};
+    ghost use Rattle.ibc_law_checks.specs.Lanes.{IsLawfulLane, broken_by_acknowledging, broken_by_receiving, broken_by_sending, broken_by_timing_out, is_next, is_settled, new_lane, was_sent, with_acknowledged, with_received, with_sent, with_timed_out};
 
     /// The lane of a channel over which nothing has gone.
     pub fn new(alloc: Global, ordered: bool) -> Lane
@@ -192,7 +193,7 @@ impl Lane {
 
     // A law that doesn't hold where the packet is sent next; none where each does.
     fn broken_by_sending(&self, packet: &Packet) -> Option<PacketLaw>
-        ensures { MatchOption result (IsLawfulLane (with_sent self.now packet.now)) (λ law. ¬ (Holds law (with_sent self.now packet.now))) }
+        ensures { IsToldOfLane (with_sent self.now packet.now) result }
     {
         self.lemma_is_lawful();
         self.first_broken_by_sending(packet)
@@ -200,7 +201,7 @@ impl Lane {
 
     // A law that doesn't hold where the packet is received next; none where each does.
     fn broken_by_receiving(&self, packet: &Packet) -> Option<PacketLaw>
-        ensures { MatchOption result (IsLawfulLane (with_received self.now packet.now)) (λ law. ¬ (Holds law (with_received self.now packet.now))) }
+        ensures { IsToldOfLane (with_received self.now packet.now) result }
     {
         self.lemma_is_lawful();
         self.first_broken_by_receiving(packet)
@@ -208,7 +209,7 @@ impl Lane {
 
     // A law that doesn't hold where the packet is acknowledged next; none where each does.
     fn broken_by_acknowledging(&self, packet: &Packet) -> Option<PacketLaw>
-        ensures { MatchOption result (IsLawfulLane (with_acknowledged self.now packet.now)) (λ law. ¬ (Holds law (with_acknowledged self.now packet.now))) }
+        ensures { IsToldOfLane (with_acknowledged self.now packet.now) result }
     {
         self.lemma_is_lawful();
         self.first_broken_by_acknowledging(packet)
@@ -216,7 +217,7 @@ impl Lane {
 
     // A law that doesn't hold where the packet is timed out next; none where each does.
     fn broken_by_timing_out(&self, packet: &Packet) -> Option<PacketLaw>
-        ensures { MatchOption result (IsLawfulLane (with_timed_out self.now packet.now)) (λ law. ¬ (Holds law (with_timed_out self.now packet.now))) }
+        ensures { IsToldOfLane (with_timed_out self.now packet.now) result }
     {
         self.lemma_is_lawful();
         self.first_broken_by_timing_out(packet)
@@ -241,7 +242,7 @@ impl Lane {
 
     /// Notes a packet that was sent, or tells a law that this breaks; then nothing is noted. Error: no memory.
     pub fn send(&mut self, packet: &Packet) -> Result<Option<PacketLaw>, AllocError>
-        ensures ok { IfOk result (λ broken. MatchOption broken (self.new ≡ with_sent self.old packet.now) (λ law. (self.new ≡ self.old) × ¬ (Holds law (with_sent self.old packet.now)))) }
+        ensures ok { BecomesUnless self.old (with_sent self.old packet.now) result self.new }
         ensures err { OnErr result (self.new ≡ self.old) }
     {
         match self.broken_by_sending(packet) {
@@ -256,7 +257,7 @@ impl Lane {
 
     /// Notes a packet that was received, or tells a law that this breaks; then nothing is noted. Error: no memory.
     pub fn receive(&mut self, packet: &Packet) -> Result<Option<PacketLaw>, AllocError>
-        ensures ok { IfOk result (λ broken. MatchOption broken (self.new ≡ with_received self.old packet.now) (λ law. (self.new ≡ self.old) × ¬ (Holds law (with_received self.old packet.now)))) }
+        ensures ok { BecomesUnless self.old (with_received self.old packet.now) result self.new }
         ensures err { OnErr result (self.new ≡ self.old) }
     {
         match self.broken_by_receiving(packet) {
@@ -271,7 +272,7 @@ impl Lane {
 
     /// Notes a packet that was acknowledged, or tells a law that this breaks; then nothing is noted. Error: no memory.
     pub fn acknowledge(&mut self, packet: &Packet) -> Result<Option<PacketLaw>, AllocError>
-        ensures ok { IfOk result (λ broken. MatchOption broken (self.new ≡ with_acknowledged self.old packet.now) (λ law. (self.new ≡ self.old) × ¬ (Holds law (with_acknowledged self.old packet.now)))) }
+        ensures ok { BecomesUnless self.old (with_acknowledged self.old packet.now) result self.new }
         ensures err { OnErr result (self.new ≡ self.old) }
     {
         match self.broken_by_acknowledging(packet) {
@@ -286,7 +287,7 @@ impl Lane {
 
     /// Notes a packet that timed out, or tells a law that this breaks; then nothing is noted. Error: no memory.
     pub fn time_out(&mut self, packet: &Packet) -> Result<Option<PacketLaw>, AllocError>
-        ensures ok { IfOk result (λ broken. MatchOption broken (self.new ≡ with_timed_out self.old packet.now) (λ law. (self.new ≡ self.old) × ¬ (Holds law (with_timed_out self.old packet.now)))) }
+        ensures ok { BecomesUnless self.old (with_timed_out self.old packet.now) result self.new }
         ensures err { OnErr result (self.new ≡ self.old) }
     {
         match self.broken_by_timing_out(packet) {

@@ -1,7 +1,7 @@
 //! Which end of a channel an entry made.
 
-ghost use Rattle.std.specs.Prelude.{◌≡◌, option_map};
-ghost use Rattle.ibc_law_checks.specs.MadeEnds.{made_by, made_in};
+ghost use Rattle.std.specs.Prelude.{◌≡◌};
+ghost use Rattle.ibc_law_checks.specs.MadeEnds.{made_by, made_in, abstract_made};
 
 use ibc_ids::{ChannelId, PortId};
 use ibc_machine::{Effect, Entry, Event, Reply};
@@ -17,7 +17,7 @@ pub(crate) struct MadeEnd<'e> {
 
 /// The end that an entry made (ICS 4, "chanOpenInit" and "chanOpenTry").
 pub(crate) fn made_in(entry: &Entry) -> Option<MadeEnd<'_>>
-    ensures { option_map (λ made. (made.port.now, made.channel.now, made.order)) result ≡ made_in entry.now }
+    ensures { abstract_made result ≡ made_in entry.now }
 {
     match (&entry.event, &entry.reply) {
         (Event::Message { message, .. }, Reply::Ok(effect)) => made_by(message, effect),
@@ -27,7 +27,7 @@ pub(crate) fn made_in(entry: &Entry) -> Option<MadeEnd<'_>>
 
 // The end that an accepted message made.
 fn made_by<'e>(message: &'e Message, effect: &'e Effect) -> Option<MadeEnd<'e>>
-    ensures { option_map (λ made. (made.port.now, made.channel.now, made.order)) result ≡ made_by message.now effect.now }
+    ensures { abstract_made result ≡ made_by message.now effect.now }
 {
     match (message, effect) {
         (Message::ChanOpenInit(message), Effect::Channel(channel)) => Some(MadeEnd {

@@ -14,6 +14,10 @@ use Rattle.ibc_root_table.specs.Passes.{Sight, SamePass, Publishes, own_chain}
 abbrev pub publication_of : Sight → RecordsModel → Publication
 publication_of pass held = record { chain = own_chain pass; root = core_root (core_of held); time = held.store.time }
 
+-- how many heights the chain of a pass has published, as the pass has seen
+abbrev pub published_so_far : Sight → ℕ
+published_so_far pass = published_height (own_chain pass) pass.seen
+
 -- the block is the next height, and the last publication that the pass has seen
 pub record IsCommitted (capacity next_time : ℕ) (held : RecordsModel) (pass : Sight) (given : ℕ × Text) (held' : RecordsModel) (pass' : Sight) : Type 0 where
   pub forward : held.store.time ≤ next_time

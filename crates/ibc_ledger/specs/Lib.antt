@@ -8,3 +8,6 @@ pub mod HistoryGrowth
 pub mod ProvedView
 pub mod SentNames
 pub mod SortedHoldings
+pub mod LedgerReads
+pub mod PortChannels
+pub mod PassGrowth

@@ -1,11 +1,12 @@
 -- Which packets messages sent, and where in a history they stand (ICS 4, "Packet flow & handling").
-use Rattle.std.specs.Prelude.{◌≡◌, ℕ, Bool, false, List, Option, Some, None}
+use Rattle.std.specs.Prelude.{◌≡◌, ℕ, Bool, false, List, Option, Some, None, option_map, Result, IfOk}
 use Rattle.std.specs.Option.{option_map_or}
 use Rattle.std.specs.List.{position_from}
 use Rattle.std.specs.Ordering.{nat_cmp, ordering_then, is_eq}
 use Rattle.std.specs.declared.cmp.Ordering.{Ordering}
 use Rattle.ibc_ids.specs.Texts.{Text, pair_cmp}
 use Rattle.ibc_ids.specs.Maps.{Map, at, with}
+use Rattle.ibc_ids.specs.declared.refusal.Refusal.{Refusal}
 use Rattle.ibc_wire.specs.declared.packet.Packet.{Packet}
 use Rattle.ibc_wire.specs.declared.records.ChannelEnd.{ChannelEnd}
 use Rattle.ibc_wire.specs.declared.messages.Message.{Message}
@@ -53,6 +54,11 @@ packet_to port channel n end peer c = record {
   destination_channel = peer;
   payload = c.payload;
 }
+
+-- a call gives the packet that an event sent from an end to the peer of this name, or none; or it fails
+abbrev pub IsPacketOfEvent : Event → Text → Text → ℕ → ChannelEnd → Text → Result (Option Packet) Refusal → Type 0
+IsPacketOfEvent event port channel n end peer result =
+    IfOk result (λ packet. packet ≡ option_map (λ c. packet_to port channel n end peer c) (commitment_in event))
 
 -- the end from which a message sends
 abbrev pub sender_of : Message → Option (Text × Text)

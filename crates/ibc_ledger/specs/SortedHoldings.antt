@@ -6,7 +6,7 @@ use Rattle.std.specs.List.Sorted.{IsPermutation, IsSorted}
 use Rattle.std.specs.declared.cmp.Ordering.{Ordering}
 use Rattle.ibc_ids.specs.Texts.{text_cmp}
 use Rattle.ibc_ids.specs.Names.{is_user, is_base_denom}
-use Rattle.ibc_machine.specs.chain.Genesis.{Holding, is_same_holding, total_of}
+use Rattle.ibc_machine.specs.chain.Genesis.{Holding, is_same_holding, is_fair, total_of}
 use Rattle.ibc_ledger.specs.declared.sorted_holdings.DenomHolding.{DenomHolding}
 
 -- the holding that stands by its denomination
@@ -20,6 +20,10 @@ all_shown row = map shown row
 -- whether all denominations are base ones
 abbrev pub are_base : List Holding → Bool
 are_base holdings = list_all (λ holding. is_base_denom holding.1) holdings
+
+-- whether each of the holdings is fair among them
+abbrev pub are_all_fair : List Holding → Bool
+are_all_fair holdings = list_all (is_fair holdings) holdings
 
 -- the order by denomination, and then by user
 abbrev pub holding_cmp : Holding → Holding → Ordering

@@ -1,14 +1,11 @@
 //! What a ledger does at the end of a block.
 
 ghost use Rattle.std.specs.Prelude.{◌≡◌, IsSome};
-ghost use Rattle.ibc_ids.specs.Publications.{height_of as published_height};
 ghost use Rattle.ibc_ids.specs.declared.refusal.Refusal.TheVariants.{NoMemory};
-ghost use Rattle.ibc_machine.specs.declared.event.Event.TheVariants as event;
 ghost use Rattle.ibc_machine.specs.declared.reply.Reply.TheVariants as reply_of;
 ghost use Rattle.ibc_path_store.specs.StoreModel.{height_of};
-ghost use Rattle.ibc_root_table.specs.Passes.{own_chain};
-ghost use Rattle.ibc_ledger.specs.HistoryGrowth.{AddsOrNot};
-ghost use Rattle.ibc_ledger.specs.BlockEnd.{IsEnded};
+ghost use Rattle.ibc_ledger.specs.BlockEnd.{IsEnded, published_so_far};
+ghost use Rattle.ibc_ledger.specs.HistoryGrowth.{AddsBlockEnd};
 
 use crate::entry::seen_if;
 use crate::outcome::{EffectTwice, replies};
@@ -25,7 +22,7 @@ impl Ledger {
     /// reply is `NoMemory`, nothing has changed.
     pub fn end_block(&mut self, next_time: u64) -> Reply
         ensures table { self.new.table ≡ self.old.table }
-        ensures adds { AddsOrNot self.old.ledger (event.Block self.old.ledger.chain next_time) result self.new.ledger }
+        ensures adds { AddsBlockEnd self.old.ledger next_time result self.new.ledger }
         ensures nothing { result ≡ reply_of.No NoMemory → self.new ≡ self.old }
     {
         let Ok(()) = self.history.reserve(1) else {
@@ -69,7 +66,7 @@ fn commit_block(
     requires table { pass.old.table ≡ table.now }
     requires own { IsSome pass.old.own }
     requires capacity { capacity ≡ table.now.shape.capacity }
-    requires height { height_of records.old.store ≡ published_height (own_chain pass.old) pass.old.seen }
+    requires height { height_of records.old.store ≡ published_so_far pass.old }
     ensures { IsEnded capacity next_time records.old pass.old result records.new pass.new }
 {
     let time = records.time();

@@ -1,13 +1,10 @@
 //! What becomes of the messages of channels.
 
-ghost use Rattle.std.specs.Prelude.{◌≡◌, ℕ, IfOk};
+ghost use Rattle.std.specs.Prelude.{◌≡◌, IfOk};
 ghost use Rattle.ibc_ids.specs.Paths as paths;
 ghost use Rattle.ibc_wire.specs.declared.messages.Message.TheVariants as message_of;
-ghost use Rattle.ibc_machine.specs.declared.reply.Effect.TheVariants as effect;
-ghost use Rattle.ibc_machine.specs.chain.Applications.{require_application, on_open, on_close};
-ghost use Rattle.ibc_machine.specs.ics04.Channels.{chan_open_init, chan_open_try, chan_close_init};
-ghost use Rattle.ibc_records.specs.HandlerContract.{IsHandled};
 ghost use Rattle.ibc_ledger.specs.MessageReplies.{IsReady, IsAnswered};
+ghost use Rattle.ibc_ledger.specs.PortChannels.{IsOpenInitOnPort, IsOpenTryOnPort, IsCloseInitOnPort};
 
 use crate::applications::Applications;
 use crate::host_state::HostState;
@@ -89,7 +86,7 @@ fn init_on_port(
     applications: &Applications,
     message: &ChanOpenInit,
 ) -> Result<ChannelId, Refusal>
-    ensures answer { (chain chains : ℕ) → IsHandled effect.Channel (chan_open_init (require_application message.now.port) (on_open message.now.port) message.now) chain chains records.old result records.new }
+    ensures answer { IsOpenInitOnPort message.now records.old result records.new }
     ensures named { IfOk result (λ id. id ≡ paths.nth_channel records.old.next_channel) }
 {
     if is_transfer_port(&message.port) {
@@ -107,7 +104,7 @@ fn try_on_port(
     applications: &Applications,
     message: &ChanOpenTry,
 ) -> Result<ChannelId, Refusal>
-    ensures answer { (chain chains : ℕ) → IsHandled effect.Channel (chan_open_try (require_application message.now.port) (on_open message.now.port) message.now) chain chains records.old result records.new }
+    ensures answer { IsOpenTryOnPort message.now records.old result records.new }
     ensures named { IfOk result (λ id. id ≡ paths.nth_channel records.old.next_channel) }
 {
     if is_transfer_port(&message.port) {
@@ -124,7 +121,7 @@ fn close_on_port(
     applications: &Applications,
     message: &ChanCloseInit,
 ) -> Result<(), Refusal>
-    ensures { (chain chains : ℕ) → IsHandled (λ _. effect.None) (chan_close_init (on_close message.now.port) message.now) chain chains records.old result records.new }
+    ensures { IsCloseInitOnPort message.now records.old result records.new }
 {
     if is_transfer_port(&message.port) {
         close_init(records, &applications.transfers, message)

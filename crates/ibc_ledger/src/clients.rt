@@ -1,10 +1,9 @@
 //! What becomes of the messages of clients.
 
 ghost use Rattle.std.specs.Prelude.{◌≡◌};
-ghost use mathlib.Core.List.{IsPrefix};
 ghost use Rattle.ibc_wire.specs.declared.messages.Message.TheVariants as message_of;
-ghost use Rattle.ibc_root_table.specs.Passes.{SamePass, KeepsOwn};
 ghost use Rattle.ibc_ledger.specs.MessageReplies.{IsReady, IsAnswered, IsUpdateAnswer};
+ghost use Rattle.ibc_ledger.specs.PassGrowth.{SeesFurther};
 
 use crate::host_state::HostState;
 use crate::outcome::{EffectTwice, Outcome};
@@ -43,7 +42,7 @@ impl HostState {
     ) -> Outcome
         requires { pass.old.table ≡ table.now }
         ensures answer { IsUpdateAnswer message.now self.old pass.old result self.new pass.new }
-        ensures pass { SamePass pass.old pass.new × IsPrefix pass.old.seen pass.new.seen × KeepsOwn pass.old pass.new }
+        ensures pass { SeesFurther pass.old pass.new }
     {
         let updated = update(&mut self.records, table, pass, message);
         Outcome {

@@ -1,22 +1,17 @@
 //! A ledger: a chain with its history, its records and its pass of the table.
 
-ghost use Rattle.std.specs.Prelude.{◌≡◌, ◌<◌, ◌⊎◌, ◌↔◌, ℕ, [], false, Some, Err, length, map, IfOk, IfErr, IsNone, IsTrue, IsOkUnless};
-ghost use Rattle.std.specs.Option.{IsSomeAnd};
+ghost use Rattle.std.specs.Prelude.{◌≡◌, ◌<◌, ◌⊎◌, ◌↔◌, [], false, Some, Err, length, map, IfOk, IfErr, IsNone, IsTrue, IsOkUnless};
 ghost use mathlib.Core.List.{IsPrefix};
-ghost use Rattle.ibc_ids.specs.Texts.{text_cmp};
-ghost use Rattle.ibc_ids.specs.Maps.{at};
-ghost use Rattle.ibc_ids.specs.Paths.{path};
-ghost use Rattle.ibc_ids.specs.Publications.{height_of, published_by};
+ghost use Rattle.ibc_ids.specs.Publications.{published_by};
 ghost use Rattle.ibc_ids.specs.declared.refusal.Refusal.TheVariants.{BadMessage, NoConsensus, NoMemory};
-ghost use Rattle.ibc_merkle.specs.Written.{written_proof};
 ghost use Rattle.ibc_machine.specs.chain.Genesis.{genesis_state, is_allowed};
-ghost use Rattle.ibc_machine.specs.ics24.Image.{image};
-ghost use Rattle.ibc_machine.specs.ledger.Ledgers.{IsLedger, SeesMore, state_of};
+ghost use Rattle.ibc_machine.specs.ledger.Ledgers.{IsLedger, SeesMore};
+ghost use Rattle.ibc_refinement.specs.World.{AreOfFirstChains};
 ghost use Rattle.ibc_note.specs.AbstractNotes.{abstract_notes};
 ghost use Rattle.ibc_bank.specs.ListedHoldings.{abstract_holding};
-ghost use Rattle.ibc_ledger.specs.LedgerModel.{abstract_entry, shape_of};
+ghost use Rattle.ibc_ledger.specs.LedgerModel.{abstract_entry, shape_of, begun_ledger, after_follow};
 ghost use Rattle.ibc_ledger.specs.SentPackets.{ack_on, packet_on};
-ghost use Rattle.ibc_ledger.specs.ReplayedState.{provable_block};
+ghost use Rattle.ibc_ledger.specs.LedgerReads.{value_on, all_balances_on, all_notes_on, provable_on, IsProofOn};
 
 use crate::applications::Applications;
 use crate::host_state::HostState;
@@ -70,7 +65,7 @@ impl Ledger {
         requires table { table.value.shape ≡ shape_of (genesis_state genesis.now) }
         requires pass { (pass.table ≡ table.value) × (pass.own ≡ Some chain) }
         requires unpublished { published_by chain pass.seen ≡ [] }
-        ensures ok { IfOk result (λ ledger. ledger ≡ record { ledger = record { genesis = genesis_state genesis.now; chain = chain; history = []; seen = pass.seen }; table = table.value }) }
+        ensures ok { IfOk result (λ made. made ≡ begun_ledger genesis.now chain pass.seen table.value) }
         ensures bad { (result ≡ Err BadMessage) ↔ (is_allowed (genesis_state genesis.now) ≡ false) }
         ensures err { IfErr result (λ refusal. (refusal ≡ BadMessage) ⊎ (refusal ≡ NoMemory)) }
     {
@@ -122,7 +117,7 @@ impl Ledger {
     pub fn lemma_is_its_history(&self)
         ensures is { IsLedger self.now.ledger }
         ensures allowed { IsTrue (is_allowed self.now.ledger.genesis) }
-        ensures within { (c : ℕ) → 0 < height_of c self.now.ledger.seen → c < length self.now.ledger.genesis.chains }
+        ensures within { AreOfFirstChains (length self.now.ledger.genesis.chains) self.now.ledger.seen }
     {
         self.table.lemma_holds_what_is_seen(&self.pass);
     }
@@ -130,7 +125,7 @@ impl Ledger {
     /// The value of a key in the working block, or none where the key isn't there (ICS 24). `NoMemory` where a growth is
     /// refused.
     pub fn query(&self, key: &Key) -> Result<Option<Bytes>, Refusal>
-        ensures ok { IfOk result (λ value. value ≡ at text_cmp (path key.now) (image (state_of self.now.ledger).chain.records.core)) }
+        ensures ok { IfOk result (λ value. value ≡ value_on self.now.ledger key.now) }
         ensures err { IsOkUnless result NoMemory }
     {
         let path = key.path(self.node.alloc)?;
@@ -144,8 +139,8 @@ impl Ledger {
     /// (ICS 23, "CommitmentProof"). `NoConsensus` exactly where the height isn't among the last ones that were committed, as
     /// many as the window of the genesis says; `NoMemory` where a growth is refused.
     pub fn query_proof(&self, height: u64, key: &Key) -> Result<Proof, Refusal>
-        ensures ok { IfOk result (λ proof. IsSomeAnd (provable_block self.now.ledger.genesis.window (state_of self.now.ledger).chain.committed height) (λ block. proof ≡ written_proof (image block.records.core) (path key.now))) }
-        ensures unknown { (result ≡ Err NoConsensus) ↔ IsNone (provable_block self.now.ledger.genesis.window (state_of self.now.ledger).chain.committed height) }
+        ensures ok { IfOk result (λ proof. IsProofOn self.now.ledger height key.now proof) }
+        ensures unknown { (result ≡ Err NoConsensus) ↔ IsNone (provable_on self.now.ledger height) }
         ensures err { IfErr result (λ refusal. (refusal ≡ NoConsensus) ⊎ (refusal ≡ NoMemory)) }
     {
         self.node.records.prove(height, key)
@@ -154,7 +149,7 @@ impl Ledger {
     /// Who holds how much of what in the working block: the amounts above 0, in the byte order of the accounts' texts and
     /// then of the denominations. `NoMemory` where a growth is refused.
     pub fn balances(&self) -> Result<Vec<(Account, Denom, u128)>, Refusal>
-        ensures ok { IfOk result (λ list. map abstract_holding list.items ≡ (state_of self.now.ledger).chain.records.apps.balances) }
+        ensures ok { IfOk result (λ all. map abstract_holding all.items ≡ all_balances_on self.now.ledger) }
         ensures err { IsOkUnless result NoMemory }
     {
         let bank = self.node.applications.transfers.bank();
@@ -164,7 +159,7 @@ impl Ledger {
     /// The notes that came over each channel of port `note`, in the order in which they came; the channels in the byte order
     /// of their names. `NoMemory` where a growth is refused.
     pub fn all_notes(&self) -> Result<Vec<(ChannelId, Vec<Bytes>)>, Refusal>
-        ensures ok { IfOk result (λ list. map abstract_notes list.items ≡ (state_of self.now.ledger).chain.records.apps.notes) }
+        ensures ok { IfOk result (λ all. map abstract_notes all.items ≡ all_notes_on self.now.ledger) }
         ensures err { IsOkUnless result NoMemory }
     {
         Ok(self.node.applications.notes.all(self.node.alloc)?)
@@ -179,7 +174,7 @@ impl Ledger {
         channel: &ChannelId,
         sequence: u64,
     ) -> Result<Option<Packet>, Refusal>
-        ensures ok { IfOk result (λ packet. packet ≡ packet_on self.now.ledger port.now channel.now sequence) }
+        ensures ok { IfOk result (λ sent. sent ≡ packet_on self.now.ledger port.now channel.now sequence) }
         ensures err { IsOkUnless result NoMemory }
     {
         let Some(mine) = self.node.records.channel(port, channel)? else {
@@ -233,7 +228,7 @@ impl Ledger {
         requires table { leader.old.table ≡ self.old.table }
         requires behind { IsPrefix self.old.ledger.seen leader.old.ledger.seen }
         ensures leader { leader.new ≡ leader.old }
-        ensures follows { self.new ≡ record self.old { ledger = record self.old.ledger { seen = leader.old.ledger.seen } } }
+        ensures follows { self.new ≡ after_follow self.old leader.old }
     {
         self.table.follow(&mut leader.pass, &mut self.pass);
     }

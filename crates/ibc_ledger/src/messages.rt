@@ -1,11 +1,9 @@
 //! What a ledger does with messages.
 
 ghost use Rattle.std.specs.Prelude.{◌≡◌};
-ghost use mathlib.Core.List.{IsPrefix};
-ghost use Rattle.ibc_machine.specs.declared.event.Event.TheVariants as event;
-ghost use Rattle.ibc_root_table.specs.Passes.{SamePass, KeepsOwn};
-ghost use Rattle.ibc_ledger.specs.HistoryGrowth.{AddsOrNot};
 ghost use Rattle.ibc_ledger.specs.MessageReplies.{IsReady, IsAnswer};
+ghost use Rattle.ibc_ledger.specs.HistoryGrowth.{AddsMessage};
+ghost use Rattle.ibc_ledger.specs.PassGrowth.{SeesFurther};
 
 use crate::entry::seen_if;
 use crate::host_state::HostState;
@@ -21,7 +19,7 @@ impl Ledger {
     /// the reply is `NoMemory`, nothing has changed but what the pass has seen.
     pub fn apply(&mut self, message: Message) -> Reply
         ensures table { self.new.table ≡ self.old.table }
-        ensures adds { AddsOrNot self.old.ledger (event.Message self.old.ledger.chain message) result self.new.ledger }
+        ensures adds { AddsMessage self.old.ledger message result self.new.ledger }
     {
         let Ok(()) = self.history.reserve(1) else {
             drop(message);
@@ -61,7 +59,7 @@ impl HostState {
         requires table { pass.old.table ≡ table.now }
         requires ready { IsReady message.now self.old }
         ensures answer { IsAnswer message.now self.old pass.old result self.new pass.new }
-        ensures pass { SamePass pass.old pass.new × IsPrefix pass.old.seen pass.new.seen × KeepsOwn pass.old pass.new }
+        ensures pass { SeesFurther pass.old pass.new }
     {
         match message {
             Message::CreateClient(message) => Outcome::unread(self.create_client(message)),

@@ -92,7 +92,7 @@ impl EffectTwice {
 
 /// The replies that tell a result, once for the caller and once for the history. Error: memory ran out.
 pub fn replies(given: Result<EffectTwice, Refusal>) -> Result<(Reply, Reply), AllocError>
-    ensures ok { IfOk result (λ replies. (replies.0 ≡ caller_reply given) × (replies.1 ≡ history_reply given)) }
+    ensures ok { IfOk result (λ both. (both.0 ≡ caller_reply given) × (both.1 ≡ history_reply given)) }
     ensures plenty { IsOk result → given ≡ Err NoMemory → ⊥ }
     ensures err { IsErr result → given ≡ Err NoMemory }
 {

@@ -68,7 +68,7 @@ impl SentPackets {
         channel: &ChannelId,
         sequence: u64,
     ) -> Result<Option<usize>, AllocError>
-        ensures { IfOk result (λ place. place ≡ at sent_cmp ((port.now, channel.now), sequence) self.now.pairs) }
+        ensures { IfOk result (λ n. n ≡ at sent_cmp ((port.now, channel.now), sequence) self.now.pairs) }
     {
         let port = port.clone()?;
         let channel = channel.clone()?;

@@ -1,15 +1,14 @@
 //! What stands in the working block: ends of channels, and what accounts hold.
 
-ghost use Rattle.std.specs.Prelude.{◌≡◌, true, Some, None, IfOk, MatchOption, option_copied, option_map, IsOkUnless};
+ghost use Rattle.std.specs.Prelude.{◌≡◌, true, IfOk, option_copied, IsOkUnless};
 ghost use Rattle.std.specs.List.{list_all};
 ghost use Rattle.ibc_ids.specs.Names.{is_denom};
 ghost use Rattle.ibc_ids.specs.Paths.{account_text};
 ghost use Rattle.ibc_ids.specs.declared.refusal.Refusal.TheVariants.{NoMemory};
-ghost use Rattle.ibc_machine.specs.chain.Records.{client_at, channel_at};
-ghost use Rattle.ibc_machine.specs.ics04.Channels.{client_of, peer_channel_of};
 ghost use Rattle.ibc_machine.specs.ics20.Bank.{balance, supply};
-ghost use Rattle.ibc_machine.specs.ledger.Ledgers.{state_of};
 ghost use Rattle.ibc_records.specs.RecordsModel.{core_of};
+ghost use Rattle.ibc_ledger.specs.SentPackets.{end_at};
+ghost use Rattle.ibc_ledger.specs.LedgerReads.{core_on, all_balances_on, IsNamedEnd, chain_tracked_over};
 
 use crate::Ledger;
 use ibc_ids::{Account, ChannelId, ConnectionId, Denom, PortId, Refusal};
@@ -19,7 +18,7 @@ use ibc_wire::ChannelEnd;
 impl Ledger {
     /// The end of a channel in the working block, or none (ICS 4, "Channel paths"). `NoMemory` where a growth is refused.
     pub fn channel(&self, port: &PortId, channel: &ChannelId) -> Result<Option<&Channel>, Refusal>
-        ensures ok { IfOk result (λ found. option_copied found ≡ channel_at (state_of self.now.ledger).chain.records.core port.now channel.now) }
+        ensures ok { IfOk result (λ end. option_copied end ≡ end_at self.now.ledger port.now channel.now) }
         ensures err { IsOkUnless result NoMemory }
     {
         self.node.records.channel(port, channel)
@@ -31,7 +30,7 @@ impl Ledger {
         &'a self,
         end: &'a ChannelEnd,
     ) -> Result<Option<(&'a ChannelId, &'a Channel)>, Refusal>
-        ensures ok { IfOk result (λ found. MatchOption found (channel_at (state_of self.now.ledger).chain.records.core end.now.peer_port (peer_channel_of end.now) ≡ None) (λ named. (end.now.peer_channel ≡ Some named.0.now) × (channel_at (state_of self.now.ledger).chain.records.core end.now.peer_port named.0.now ≡ Some named.1.now))) }
+        ensures ok { IfOk result (λ found. IsNamedEnd (core_on self.now.ledger) end.now found) }
         ensures err { IsOkUnless result NoMemory }
     {
         named_in(&self.node.records, end)
@@ -39,14 +38,14 @@ impl Ledger {
 
     /// The number of the chain that the client under a connection tracks, or none where there is no such client.
     pub fn tracked_over(&self, connection: &ConnectionId) -> Option<u8>
-        ensures { result ≡ option_map (λ client. client.state.chain) (client_at (state_of self.now.ledger).chain.records.core (client_of (state_of self.now.ledger).chain.records.core connection.now)) }
+        ensures { result ≡ chain_tracked_over (core_on self.now.ledger) connection.now }
     {
         tracked_in(&self.node.records, connection)
     }
 
     /// What an account holds of a denomination in the working block.
     pub fn balance(&self, account: &Account, denom: &Denom) -> u128
-        ensures { result ≡ balance (state_of self.now.ledger).chain.records.apps.balances (account_text account.now) denom.now }
+        ensures { result ≡ balance (all_balances_on self.now.ledger) (account_text account.now) denom.now }
     {
         self.node
             .applications
@@ -57,14 +56,14 @@ impl Ledger {
 
     /// All that the accounts hold of a denomination in the working block.
     pub fn supply(&self, denom: &Denom) -> u128
-        ensures { result ≡ supply (state_of self.now.ledger).chain.records.apps.balances denom.now }
+        ensures { result ≡ supply (all_balances_on self.now.ledger) denom.now }
     {
         self.node.applications.transfers.bank().supply(denom)
     }
 
     /// Each denomination of which an account holds something has the form of one (ICS 20).
     pub fn lemma_holds_denominations(&self)
-        ensures { list_all (λ entry. is_denom entry.0.1) (state_of self.now.ledger).chain.records.apps.balances ≡ true }
+        ensures { list_all (λ entry. is_denom entry.0.1) (all_balances_on self.now.ledger) ≡ true }
     {
         self.node
             .applications
@@ -80,7 +79,7 @@ fn named_in<'a>(
     records: &'a Records,
     end: &'a ChannelEnd,
 ) -> Result<Option<(&'a ChannelId, &'a Channel)>, Refusal>
-    ensures ok { IfOk result (λ found. MatchOption found (channel_at (core_of records.now) end.now.peer_port (peer_channel_of end.now) ≡ None) (λ named. (end.now.peer_channel ≡ Some named.0.now) × (channel_at (core_of records.now) end.now.peer_port named.0.now ≡ Some named.1.now))) }
+    ensures ok { IfOk result (λ found. IsNamedEnd (core_of records.now) end.now found) }
     ensures err { IsOkUnless result NoMemory }
 {
     records.lemma_names_have_form();
@@ -96,7 +95,7 @@ fn named_in<'a>(
 // The number of the chain that the client under a connection of records tracks, or none where there is no such client. Where
 // there is no such connection, the client of the empty name is asked, which no chain has.
 fn tracked_in(records: &Records, connection: &ConnectionId) -> Option<u8>
-    ensures { result ≡ option_map (λ client. client.state.chain) (client_at (core_of records.now) (client_of (core_of records.now) connection.now)) }
+    ensures { result ≡ chain_tracked_over (core_of records.now) connection.now }
 {
     records.lemma_names_have_form();
     let Some(end) = records.connection(connection) else {

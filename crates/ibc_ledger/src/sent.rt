@@ -1,9 +1,9 @@
 //! The packets that messages sent.
 
-ghost use Rattle.std.specs.Prelude.{◌≡◌, Some, option_map, IfOk, IsOkUnless};
+ghost use Rattle.std.specs.Prelude.{◌≡◌, Some, IfOk, IsOkUnless};
 ghost use Rattle.ibc_ids.specs.declared.refusal.Refusal.TheVariants.{NoMemory};
 ghost use Rattle.ibc_wire.specs.declared.messages.Message.TheVariants as message;
-ghost use Rattle.ibc_ledger.specs.SentNames.{commitment_by, commitment_in, packet_to};
+ghost use Rattle.ibc_ledger.specs.SentNames.{commitment_by, commitment_in, packet_to, IsPacketOfEvent};
 
 use ibc_ids::{ChannelId, PortId, Refusal, Version};
 use ibc_machine::Event;
@@ -23,7 +23,7 @@ pub fn packet_in(
     end: &ChannelEnd,
     peer: &ChannelId,
 ) -> Result<Option<Packet>, Refusal>
-    ensures ok { IfOk result (λ packet. packet ≡ option_map (λ c. packet_to port.now channel.now sequence end.now peer.now c) (commitment_in event.now)) }
+    ensures ok { IsPacketOfEvent event.now port.now channel.now sequence end.now peer.now result }
     ensures err { IsOkUnless result NoMemory }
 {
     let Some(commitment) = commitment_in(alloc, event)? else {
@@ -62,7 +62,7 @@ fn commitment_by(alloc: Global, message: &Message) -> Result<Option<Commitment>,
 
 // What is committed of the packet of a transfer of one token.
 fn transfer_by(alloc: Global, sent: &Transfer) -> Result<Commitment, Refusal>
-    ensures ok { IfOk result (λ commitment. Some commitment ≡ commitment_by (message.Transfer sent.now)) }
+    ensures ok { IfOk result (λ made. Some made ≡ commitment_by (message.Transfer sent.now)) }
     ensures err { IsOkUnless result NoMemory }
 {
     let version = Version::parse(alloc, "ics20-1")?;
@@ -76,7 +76,7 @@ fn transfer_by(alloc: Global, sent: &Transfer) -> Result<Commitment, Refusal>
 
 // What is committed of the packet of a transfer of several tokens.
 fn transfer_many_by(alloc: Global, sent: &TransferMany) -> Result<Commitment, Refusal>
-    ensures ok { IfOk result (λ commitment. Some commitment ≡ commitment_by (message.TransferMany sent.now)) }
+    ensures ok { IfOk result (λ made. Some made ≡ commitment_by (message.TransferMany sent.now)) }
     ensures err { IsOkUnless result NoMemory }
 {
     let version = Version::parse(alloc, "ics20-own-2")?;
@@ -97,7 +97,7 @@ fn packet_to(
     peer: &ChannelId,
     commitment: Commitment,
 ) -> Result<Packet, AllocError>
-    ensures { IfOk result (λ packet. packet ≡ packet_to port.now channel.now sequence end.now peer.now commitment) }
+    ensures { IfOk result (λ p. p ≡ packet_to port.now channel.now sequence end.now peer.now commitment) }
 {
     Ok(Packet {
         sequence,

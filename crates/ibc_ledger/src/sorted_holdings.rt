@@ -1,9 +1,7 @@
 //! The holdings of a chain's start, in an order that shows whether they are fair.
 
 ghost use Rattle.std.specs.Prelude.{◌≡◌, ◌<◌, ◌+◌, false, length, IfOk, IfSome, IfNone, IsTrue};
-ghost use Rattle.std.specs.List.{list_all};
-ghost use Rattle.ibc_machine.specs.chain.Genesis.{is_fair};
-ghost use Rattle.ibc_ledger.specs.SortedHoldings.{AreSorted, AreSortedHoldings, AreFairSoFar, IsStanding, all_shown, are_base};
+ghost use Rattle.ibc_ledger.specs.SortedHoldings.{AreSorted, AreSortedHoldings, AreFairSoFar, IsStanding, all_shown, are_base, are_all_fair};
 
 use ibc_bank::heap_sorted;
 use ibc_ids::{Denom, UserName};
@@ -52,7 +50,7 @@ fn listed<'a>(
 pub(crate) fn are_fair_in_order(sorted: &[DenomHolding<'_>]) -> bool
     requires sorted { AreSorted (all_shown sorted.now) }
     requires base { IsTrue (are_base (all_shown sorted.now)) }
-    ensures { result ≡ list_all (is_fair (all_shown sorted.now)) (all_shown sorted.now) }
+    ensures { result ≡ are_all_fair (all_shown sorted.now) }
 {
     let mut total: u128 = 0;
     for i in 0..sorted.len() {
@@ -70,7 +68,7 @@ fn next_total(sorted: &[DenomHolding<'_>], i: usize, total: u128) -> Option<u128
     requires inside { i < length sorted.now }
     requires so_far { AreFairSoFar (all_shown sorted.now) i total }
     ensures more { IfSome result (AreFairSoFar (all_shown sorted.now) (i + 1)) }
-    ensures unfair { IfNone result (list_all (is_fair (all_shown sorted.now)) (all_shown sorted.now) ≡ false) }
+    ensures unfair { IfNone result (are_all_fair (all_shown sorted.now) ≡ false) }
 {
     let holding = &sorted[i];
     holding.user.lemma_has_form();
@@ -84,7 +82,7 @@ fn total_before(sorted: &[DenomHolding<'_>], i: usize, total: u128) -> Option<u1
     requires inside { i < length sorted.now }
     requires so_far { AreFairSoFar (all_shown sorted.now) i total }
     ensures standing { IfSome result (IsStanding (all_shown sorted.now) i) }
-    ensures unfair { IfNone result (list_all (is_fair (all_shown sorted.now)) (all_shown sorted.now) ≡ false) }
+    ensures unfair { IfNone result (are_all_fair (all_shown sorted.now) ≡ false) }
 {
     if i == 0 {
         return Some(0);

@@ -2,12 +2,11 @@
 
 ghost use Rattle.std.specs.Prelude.{◌≡◌, ◌&&◌, ◌^◌, ◌<◌, nat_lt, IsTrue, IfOk, IsOkUnless};
 ghost use Rattle.ibc_ids.specs.Names.{is_port, is_channel};
-ghost use Rattle.ibc_ids.specs.Paths.{path, is_key};
+ghost use Rattle.ibc_ids.specs.Paths.{is_key};
 ghost use Rattle.ibc_ids.specs.declared.refusal.Refusal.TheVariants.{NoMemory};
-ghost use Rattle.ibc_merkle.specs.Written.{written_proof};
-ghost use Rattle.ibc_machine.specs.ics24.Image.{image, core_root, IsKeyed};
-ghost use Rattle.ibc_wire.specs.Spelling.{proof_bytes};
-ghost use Rattle.ibc_ledger.specs.ProvedView.{IsProved};
+ghost use Rattle.ibc_machine.specs.ics24.Image.{core_root, IsKeyed};
+ghost use Rattle.ibc_machine.specs.ics18.Relay.{proof_at};
+ghost use Rattle.ibc_ledger.specs.ProvedView.{IsProved, view_with};
 
 use ibc_ids::{Bytes, ChannelId, Key, PortId, Refusal, Root};
 use ibc_path_store::CommittedTree;
@@ -58,7 +57,7 @@ impl View {
         tree: Option<CommittedTree>,
     ) -> View
         requires { IsProved height plain.value tree }
-        ensures { result ≡ record { chain = chain; height = height; time = times.0; working_time = times.1; core = plain.value } }
+        ensures { result ≡ view_with chain height times plain.value }
     {
         let (time, working_time) = times;
         View {
@@ -128,7 +127,7 @@ impl View {
     /// (ICS 23, "CommitmentProof"). Nothing is hashed for it. `NoMemory` where a growth is refused.
     pub fn prove(&self, alloc: Global, key: &Key) -> Result<Bytes, Refusal>
         requires { 0 < self.now.height }
-        ensures ok { IfOk result (λ bytes. bytes ≡ proof_bytes (written_proof (image self.now.core) (path key.now))) }
+        ensures ok { IfOk result (λ bytes. bytes ≡ proof_at self.now key.now) }
         ensures err { IsOkUnless result NoMemory }
     {
         lemma_is_named(key);

@@ -2,7 +2,10 @@
 use Rattle.std.specs.Prelude.{◌≡◌, ◌==◌, ◌<◌, ℕ, List, [], ◌∷◌, ◌++◌, length, true, ⊤, MatchBool}
 use mathlib.Core.List.{IsPrefix}
 use Rattle.logbook.specs.Pages.{Book, Cell, Named, Step, View, cell, may_make}
+use Rattle.ibc_machine.specs.ledger.Ledgers.{Ledger}
+use Rattle.ibc_ledger_lock.specs.Calls.{Call}
 use Rattle.ibc_ledger_lock.specs.KnownLedgers.{KnownLedger, nothing_known}
+use Rattle.ibc_ledger_lock.specs.ReceiptsAndReadings.{known_with}
 use Rattle.ibc_ledger_lock.specs.declared.book.Page.{Page}
 
 -- the history has gone on since, more was seen, and more was asked
@@ -18,6 +21,10 @@ no_book = record { number = 0; log_name = 0; cells_name = 0 }
 pub record BookPlace : Type 0 where
   pub book : Book
   pub known : KnownLedger
+
+-- at the same book the ledger is known as it is, with all that it was asked
+abbrev pub IsNoted : BookPlace → Ledger → List Call → BookPlace → Type 0
+IsNoted old ledger calls new = (new.book ≡ old.book) × (new.known ≡ known_with ledger calls)
 
 -- ---- pages
 

@@ -1,10 +1,11 @@
 -- What is of a world, what receipts tell, and what was read.
-use Rattle.std.specs.Prelude.{◌≡◌, ◌++◌, ◌-◌, ◌<◌, ◌≤◌, Bool, true, ℕ, List, [], length, take, Some, None, slice_get}
+use Rattle.std.specs.Prelude.{◌≡◌, ◌++◌, ◌-◌, ◌<◌, ◌≤◌, Bool, true, ℕ, List, [], ◌∷◌, length, take, Some, None, slice_get}
 use Rattle.std.specs.List.{All, last_or}
 use Rattle.std.specs.Option.{IsSomeAnd, option_map_or, unwrap_or}
 use Rattle.ibc_ids.specs.declared.publication.Publication.{Publication}
 use Rattle.ibc_ids.specs.Texts.{Text}
 use Rattle.ibc_ids.specs.declared.refusal.Refusal.TheVariants.{NoMemory}
+use Rattle.ibc_wire.specs.declared.messages.Message.{Message}
 use Rattle.ibc_machine.specs.declared.event.Event.{Event}
 use Rattle.ibc_machine.specs.declared.event.Event.TheVariants as event
 use Rattle.ibc_machine.specs.declared.reply.Reply.{Reply}
@@ -74,6 +75,14 @@ pub record SharedLedger : Type 0 where
   pub held : LedgerModel
   pub calls : List Call
 
+-- the last call on a shared ledger was for this message, and was answered so
+abbrev pub AddsMessageCall : SharedLedger → Message → Reply → SharedLedger → Type 0
+AddsMessageCall old message given new = new.calls ≡ old.calls ++ call_of (event.Message old.held.ledger.chain message) given ∷ []
+
+-- the last call on a shared ledger was for the end of its block, and was answered so
+abbrev pub AddsBlockCall : SharedLedger → ℕ → Reply → SharedLedger → Type 0
+AddsBlockCall old next_time given new = new.calls ≡ old.calls ++ call_of (event.Block old.held.ledger.chain next_time) given ∷ []
+
 -- the ledger of a chain's number, of this table and this genesis, of which so much is known
 abbrev pub ledger_as : TableName → GenesisState → ℕ → KnownLedger → LedgerModel
 ledger_as table genesis chain known = record {
@@ -107,6 +116,10 @@ AreInHistory receipts held =
 -- the state that the first n entries of a ledger leave
 abbrev pub state_after : ℕ → Ledger → LedgerState
 state_after n ledger = state_of (record ledger { history = take n ledger.history })
+
+-- the state that a ledger had once is what the first entries leave, as many as it had then
+abbrev pub HadItsState : Ledger → Ledger → Type 0
+HadItsState old new = state_of old ≡ state_after (length old.history) new
 
 -- the last of these entries ended a block, or there is none
 abbrev pub ends_a_block : List StampedEntry → Bool

@@ -38,7 +38,7 @@ impl<W: WorldBrand> Board<W> {
 
     /// The view of the greatest height that it finds for a chain, none where none was posted.
     pub fn latest(&self, chain: u8) -> Option<&PostedView<W>>
-        ensures { IfSome result (λ posted. IsLedgerOf W.table W.genesis posted.now × (posted.now.ledger.chain ≡ chain)) }
+        ensures { IfSome result (λ p. IsLedgerOf W.table W.genesis p.now × (p.now.ledger.chain ≡ chain)) }
     {
         let mut best: Option<&PostedView<W>> = None;
         for index in self.hint(chain)..usize::MAX {

@@ -2,7 +2,7 @@
 //! alone, but for one word.
 ghost use Rattle.std.specs.Prelude.{◌≡◌};
 ghost use Rattle.logbook.specs.Pages.{may_make, may_write};
-ghost use Rattle.ibc_ledger_lock.specs.Books.{IsKnownBeginning};
+ghost use Rattle.ibc_ledger_lock.specs.Books.{IsKnownBeginning, IsNoted};
 ghost use Rattle.ibc_ledger_lock.specs.ReceiptsAndReadings.{known_with};
 
 use ibc_ledger::Ledger;
@@ -217,7 +217,9 @@ impl UnusedBook {
 // The pen may write the word that it was the right to make.
 fn make_word(pen: &mut Pen)
     requires { pen.old.nib.right ≡ may_make }
-    ensures { (pen.new.book ≡ pen.old.book) × (pen.new.nib.right ≡ may_write) × (pen.new.nib.key ≡ pen.old.nib.key) }
+    ensures book { pen.new.book ≡ pen.old.book }
+    ensures right { pen.new.nib.right ≡ may_write }
+    ensures key { pen.new.nib.key ≡ pen.old.nib.key }
 {
     let _word: Word<Page, (), OneKeeper> = Word::tracked(0, pen);
 }
@@ -235,7 +237,7 @@ impl Keeper {
     /// Writes down the ledger as it is now, which has gone on, with all that it was asked, and puts a bookmark there.
     pub(crate) fn note<C: PickedCalls>(&mut self, ledger: &Ledger) -> Bookmark
         requires later { IsKnownBeginning self.old.known (known_with ledger.now.ledger C.calls) }
-        ensures keeper { (self.new.book ≡ self.old.book) × (self.new.known ≡ known_with ledger.now.ledger C.calls) }
+        ensures keeper { IsNoted self.old ledger.now.ledger C.calls self.new }
         ensures mark { result ≡ self.new }
     {
         let next = self.next_pen();
@@ -251,7 +253,7 @@ impl Keeper {
         reply: &Reply,
     ) -> Bookmark
         requires later { IsKnownBeginning self.old.known (known_with ledger.now.ledger C.calls) }
-        ensures keeper { (self.new.book ≡ self.old.book) × (self.new.known ≡ known_with ledger.now.ledger C.calls) }
+        ensures keeper { IsNoted self.old ledger.now.ledger C.calls self.new }
         ensures mark { result ≡ self.new }
     {
         let _ = asked;

@@ -2,20 +2,13 @@
 
 ghost use Rattle.std.specs.Prelude.{◌≡◌, ◌⊎◌, ◌↔◌, All, Err, IfErr, IfOk, IsNone, IsOkUnless, List, drop, length, map};
 ghost use Rattle.std.specs.Fn.{FnOnceReturnsAt};
-ghost use Rattle.std.specs.Option.{IsSomeAnd};
 ghost use Rattle.std.specs.Sync.Mutex.{mutex_guard_value};
-ghost use Rattle.ibc_ids.specs.Maps.{at};
-ghost use Rattle.ibc_ids.specs.Paths.{path};
-ghost use Rattle.ibc_ids.specs.Texts.{text_cmp};
 ghost use Rattle.ibc_ids.specs.declared.refusal.Refusal.TheVariants.{NoConsensus, NoMemory};
-ghost use Rattle.ibc_merkle.specs.Written.{written_proof};
 ghost use Rattle.ibc_machine.specs.declared.event.Event.TheVariants as event_of;
-ghost use Rattle.ibc_machine.specs.ics24.Image.{image};
-ghost use Rattle.ibc_machine.specs.ledger.Ledgers.{state_of};
 ghost use Rattle.ibc_ledger.specs.declared.entry.StampedEntry.{StampedEntry as KeptEntry};
 ghost use Rattle.ibc_ledger.specs.LedgerModel.{abstract_entry};
 ghost use Rattle.ibc_ledger.specs.SentPackets.{ack_on, packet_on};
-ghost use Rattle.ibc_ledger.specs.ReplayedState.{provable_block};
+ghost use Rattle.ibc_ledger.specs.LedgerReads.{value_on, provable_on, IsProofOn};
 ghost use Rattle.ibc_ledger_lock.specs.ReceiptsAndReadings.{HasAnswered, IsBehind, IsEarlierOnItsChain, IsLedgerOf, IsOfWorld, IsReceiptOf, view_shown};
 
 use crate::board::Board;
@@ -201,7 +194,7 @@ impl<W: WorldBrand> Chain<W> {
     ) -> (Result<Option<Bytes>, Refusal>, LedgerReading<W>)
         ensures is { IsLedgerOf W.table W.genesis result.1 }
         ensures chain { result.1.ledger.chain ≡ self.now }
-        ensures ok { IfOk result.0 (λ value. value ≡ at text_cmp (path key.now) (image (state_of result.1.ledger).chain.records.core)) }
+        ensures ok { IfOk result.0 (λ value. value ≡ value_on result.1.ledger key.now) }
         ensures err { IsOkUnless result.0 NoMemory }
     {
         let desk = self.lock(rt);
@@ -219,8 +212,8 @@ impl<W: WorldBrand> Chain<W> {
     ) -> (Result<Proof, Refusal>, LedgerReading<W>)
         ensures is { IsLedgerOf W.table W.genesis result.1 }
         ensures chain { result.1.ledger.chain ≡ self.now }
-        ensures ok { IfOk result.0 (λ proof. IsSomeAnd (provable_block result.1.ledger.genesis.window (state_of result.1.ledger).chain.committed height) (λ block. proof ≡ written_proof (image block.records.core) (path key.now))) }
-        ensures unknown { (result.0 ≡ Err NoConsensus) ↔ IsNone (provable_block result.1.ledger.genesis.window (state_of result.1.ledger).chain.committed height) }
+        ensures ok { IfOk result.0 (λ proof. IsProofOn result.1.ledger height key.now proof) }
+        ensures unknown { (result.0 ≡ Err NoConsensus) ↔ IsNone (provable_on result.1.ledger height) }
         ensures err { IfErr result.0 (λ refusal. (refusal ≡ NoConsensus) ⊎ (refusal ≡ NoMemory)) }
     {
         let desk = self.lock(rt);
@@ -239,7 +232,7 @@ impl<W: WorldBrand> Chain<W> {
     ) -> (Result<Option<Packet>, Refusal>, LedgerReading<W>)
         ensures is { IsLedgerOf W.table W.genesis result.1 }
         ensures chain { result.1.ledger.chain ≡ self.now }
-        ensures ok { IfOk result.0 (λ packet. packet ≡ packet_on result.1.ledger port.now channel.now sequence) }
+        ensures ok { IfOk result.0 (λ p. p ≡ packet_on result.1.ledger port.now channel.now sequence) }
         ensures err { IsOkUnless result.0 NoMemory }
     {
         let desk = self.lock(rt);

@@ -1,12 +1,12 @@
 //! What lies under a lock: a ledger, and the keeper of its book, who knows it as it is and all that it was asked.
 
-ghost use Rattle.std.specs.Prelude.{◌≡◌, ◌++◌, ◌∷◌, [], All, IfSome, drop, length, map};
+ghost use Rattle.std.specs.Prelude.{◌≡◌, All, IfSome, drop, length, map};
 ghost use Rattle.ibc_machine.specs.declared.event.Event.TheVariants as event_of;
 ghost use Rattle.ibc_machine.specs.ledger.Ledgers.{IsLedger, is_block_reply};
-ghost use Rattle.ibc_ledger.specs.HistoryGrowth.{AddsOrNot};
 ghost use Rattle.ibc_ledger.specs.LedgerModel.{abstract_entry};
-ghost use Rattle.ibc_ledger_lock.specs.Calls.{AreCallsOf, call_of};
-ghost use Rattle.ibc_ledger_lock.specs.ReceiptsAndReadings.{IsEarlierOnItsChain, IsOfWorld, IsReceiptOf, ShowsEnd, StandsOnItsChain, view_shown};
+ghost use Rattle.ibc_ledger.specs.HistoryGrowth.{AddsMessage, AddsBlockEnd};
+ghost use Rattle.ibc_ledger_lock.specs.Calls.{AreCallsOf};
+ghost use Rattle.ibc_ledger_lock.specs.ReceiptsAndReadings.{IsEarlierOnItsChain, IsOfWorld, IsReceiptOf, ShowsEnd, StandsOnItsChain, view_shown, AddsMessageCall, AddsBlockCall};
 
 use crate::book::{Keeper, UnusedBook};
 use crate::posted_view::PostedView;
@@ -61,8 +61,8 @@ impl<W: WorldBrand> LockedLedger<W> {
     /// Applies a message to the ledger. The receipt is of the call that the ledger was asked last.
     pub fn submit(&mut self, message: Message) -> Receipt<W>
         ensures table { self.new.held.table ≡ self.old.held.table }
-        ensures adds { AddsOrNot self.old.held.ledger (event_of.Message self.old.held.ledger.chain message) result.reply self.new.held.ledger }
-        ensures asked { self.new.calls ≡ self.old.calls ++ call_of (event_of.Message self.old.held.ledger.chain message) result.reply ∷ [] }
+        ensures adds { AddsMessage self.old.held.ledger message result.reply self.new.held.ledger }
+        ensures asked { AddsMessageCall self.old message result.reply self.new }
         ensures told { IsReceiptOf (event_of.Message self.old.held.ledger.chain message) result }
         ensures place { result.place ≡ length self.old.calls }
     {
@@ -83,8 +83,8 @@ impl<W: WorldBrand> LockedLedger<W> {
     /// Ends the ledger's working block. The receipt is of the call that the ledger was asked last.
     pub fn produce(&mut self, next_time: u64) -> Receipt<W>
         ensures table { self.new.held.table ≡ self.old.held.table }
-        ensures adds { AddsOrNot self.old.held.ledger (event_of.Block self.old.held.ledger.chain next_time) result.reply self.new.held.ledger }
-        ensures asked { self.new.calls ≡ self.old.calls ++ call_of (event_of.Block self.old.held.ledger.chain next_time) result.reply ∷ [] }
+        ensures adds { AddsBlockEnd self.old.held.ledger next_time result.reply self.new.held.ledger }
+        ensures asked { AddsBlockCall self.old next_time result.reply self.new }
         ensures told { IsReceiptOf (event_of.Block self.old.held.ledger.chain next_time) result }
         ensures place { result.place ≡ length self.old.calls }
     {
@@ -144,10 +144,10 @@ impl<W: WorldBrand> LockedLedger<W> {
     /// Ends the ledger's working block, and gives the view after it; none where the block's end was refused, and where a
     /// growth is refused for the view.
     pub fn produce_and_look(&mut self, next_time: u64) -> (Receipt<W>, Option<PostedView<W>>)
-        ensures adds { AddsOrNot self.old.held.ledger (event_of.Block self.old.held.ledger.chain next_time) result.0.reply self.new.held.ledger }
+        ensures adds { AddsBlockEnd self.old.held.ledger next_time result.0.reply self.new.held.ledger }
         ensures told { IsReceiptOf (event_of.Block self.old.held.ledger.chain next_time) result.0 }
         ensures place { result.0.place ≡ length self.old.calls }
-        ensures view { IfSome result.1 (λ posted. (posted ≡ self.new.held) × ShowsEnd result.0 (view_shown posted)) }
+        ensures view { IfSome result.1 (λ p. (p ≡ self.new.held) × ShowsEnd result.0 (view_shown p)) }
     {
         let receipt = self.produce(next_time);
         let posted = if is_end(receipt.reply()) {
@@ -226,7 +226,7 @@ impl<W: WorldBrand> LockedLedger<W> {
 // Ends the ledger's working block.
 fn ended(ledger: &mut Ledger, next_time: u64) -> Reply
     ensures table { ledger.new.table ≡ ledger.old.table }
-    ensures adds { AddsOrNot ledger.old.ledger (event_of.Block ledger.old.ledger.chain next_time) result ledger.new.ledger }
+    ensures adds { AddsBlockEnd ledger.old.ledger next_time result ledger.new.ledger }
 {
     ledger.end_block(next_time)
 }

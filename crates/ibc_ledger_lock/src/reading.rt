@@ -1,9 +1,9 @@
 //! What was read of a shared ledger.
 
-ghost use Rattle.std.specs.Prelude.{◌≡◌, length};
-ghost use Rattle.ibc_machine.specs.ledger.Ledgers.{Ledger, IsLedger, state_of};
-ghost use Rattle.ibc_machine.specs.ics18.Relay.{view_of};
-ghost use Rattle.ibc_ledger_lock.specs.ReceiptsAndReadings.{HasShown, IsEarlier, state_after};
+ghost use Rattle.std.specs.Prelude.{◌≡◌};
+ghost use Rattle.ibc_machine.specs.ledger.Ledgers.{Ledger, IsLedger};
+ghost use Rattle.ibc_ledger.specs.LedgerReads.{view_on};
+ghost use Rattle.ibc_ledger_lock.specs.ReceiptsAndReadings.{HasShown, IsEarlier, HadItsState};
 
 use crate::book::Bookmark;
 use crate::world::WorldBrand;
@@ -51,10 +51,10 @@ impl<W: WorldBrand> LedgerReading<W> {
 
 /// What a ledger had once is what the first entries of its history leave, as many as it had then.
 pub fn lemma_had_then()
-    ensures { (old new : Ledger) → IsLedger old → IsEarlier old new → state_of old ≡ state_after (length old.history) new }
+    ensures { (old new : Ledger) → IsLedger old → IsEarlier old new → HadItsState old new }
 {}
 
 /// What a ledger showed once, it showed after one of its blocks, or in the beginning.
 pub fn lemma_has_shown()
-    ensures { (old new : Ledger) → IsLedger old → IsEarlier old new → HasShown new (view_of old.chain (state_of old).chain) }
+    ensures { (old new : Ledger) → IsLedger old → IsEarlier old new → HasShown new (view_on old) }
 {}

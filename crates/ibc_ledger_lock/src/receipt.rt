@@ -54,5 +54,5 @@ impl<W: WorldBrand> Receipt<W> {
 
 /// What a ledger answered stands in its history, in the order of the calls.
 pub fn lemma_are_in_history()
-    ensures { (receipts : List ReceiptModel) (held : LedgerModel) → HasAnswered receipts held → AreInHistory receipts held }
+    ensures { (all : List ReceiptModel) (h : LedgerModel) → HasAnswered all h → AreInHistory all h }
 {}

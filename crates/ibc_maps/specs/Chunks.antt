@@ -8,7 +8,7 @@ use Rattle.std.specs.declared.cmp.Ordering.{Ordering}
 use Rattle.std.specs.declared.cmp.Ordering.TheVariants.{Equal}
 use Rattle.std.specs.declared.alloc.Global.{Global}
 use Rattle.std.specs.declared.sync.Arc.{Arc}
-use Rattle.ibc_ids.specs.Maps.{Map}
+use Rattle.ibc_ids.specs.Maps.{Map, with, without}
 use Rattle.ibc_maps.specs.SortedMapModel.{SortedMapModel}
 
 -- a copy of a value is the value
@@ -40,3 +40,15 @@ HasPairs chunk = 0 < length (arc_value chunk).pairs
 pub record IsRow {K V : Type 0} (order : K → K → Ordering) (chunks : List (ChunkPairs K V)) : Type 0 where
   pub sorted : is_sorted order (joined_chunks chunks) ≡ true
   pub whole : AllByRecursion HasPairs chunks
+
+-- the pairs of a chunk
+abbrev pub chunk_pairs : {K V : Type 0} → ChunkPairs K V → Map K V
+chunk_pairs chunk = (arc_value chunk).pairs
+
+-- the pairs of chunks are those of before, with the value at the key
+abbrev pub SetsAmong : {K V : Type 0} → (K → K → Ordering) → K → V → List (ChunkPairs K V) → List (ChunkPairs K V) → Type 0
+SetsAmong order key value before after = joined_chunks after ≡ with order key value (joined_chunks before)
+
+-- the pairs of chunks are those of before, without the key
+abbrev pub RemovesAmong : {K V : Type 0} → (K → K → Ordering) → K → List (ChunkPairs K V) → List (ChunkPairs K V) → Type 0
+RemovesAmong order key before after = joined_chunks after ≡ without order key (joined_chunks before)

@@ -1,9 +1,8 @@
 //! One chunk of a row, which copies of the row share.
 
 ghost use Rattle.std.specs.Prelude.{◌≡◌, ◌<◌, ◌∷◌, [], length, take, drop, OnOk, OnErr, IfOk};
-ghost use Rattle.std.specs.Arc.{arc_value};
 ghost use Rattle.ibc_ids.specs.Maps.{with, without};
-ghost use Rattle.ibc_maps.specs.Chunks.{CopiesAreSame};
+ghost use Rattle.ibc_maps.specs.Chunks.{CopiesAreSame, chunk_pairs};
 
 use crate::SortedMap;
 use std::alloc::{AllocError, Global};
@@ -19,7 +18,7 @@ pub(crate) fn first_chunk<K: Ord + Clone + Drop, V: Clone + Drop>(
     key: K,
     value: V,
 ) -> Result<Chunk<K, V>, AllocError>
-    ensures { IfOk result (λ chunk. (arc_value chunk).pairs ≡ (key, value) ∷ []) }
+    ensures { IfOk result (λ chunk. chunk_pairs chunk ≡ (key, value) ∷ []) }
 {
     let mut chunk = SortedMap::new(alloc);
     chunk.set(key, value)?;
@@ -35,8 +34,8 @@ pub(crate) fn set_in<K: Ord + Clone + Drop, V: Clone + Drop>(
 ) -> Result<(), AllocError>
     requires keys { CopiesAreSame K.is_clone }
     requires values { CopiesAreSame V.is_clone }
-    ensures ok { OnOk result ((arc_value chunk.new).pairs ≡ with K.cmp key value (arc_value chunk.old).pairs) }
-    ensures err { OnErr result ((arc_value chunk.new).pairs ≡ (arc_value chunk.old).pairs) }
+    ensures ok { OnOk result (chunk_pairs chunk.new ≡ with K.cmp key value (chunk_pairs chunk.old)) }
+    ensures err { OnErr result (chunk_pairs chunk.new ≡ chunk_pairs chunk.old) }
 {
     if let Some(own) = Arc::get_mut(chunk) {
         return own.set(key, value);
@@ -55,8 +54,8 @@ pub(crate) fn remove_in<K: Ord + Clone + Drop, V: Clone + Drop>(
 ) -> Result<(), AllocError>
     requires keys { CopiesAreSame K.is_clone }
     requires values { CopiesAreSame V.is_clone }
-    ensures ok { OnOk result ((arc_value chunk.new).pairs ≡ without K.cmp key.now (arc_value chunk.old).pairs) }
-    ensures err { OnErr result ((arc_value chunk.new).pairs ≡ (arc_value chunk.old).pairs) }
+    ensures ok { OnOk result (chunk_pairs chunk.new ≡ without K.cmp key.now (chunk_pairs chunk.old)) }
+    ensures err { OnErr result (chunk_pairs chunk.new ≡ chunk_pairs chunk.old) }
 {
     if let Some(own) = Arc::get_mut(chunk) {
         own.remove(key);
@@ -74,11 +73,11 @@ pub(crate) fn halves<K: Ord + Clone + Drop, V: Clone + Drop>(
     chunk: &Chunk<K, V>,
     count: usize,
 ) -> Result<(Chunk<K, V>, Chunk<K, V>), AllocError>
-    requires count { count < length (arc_value chunk.now).pairs }
+    requires count { count < length (chunk_pairs chunk.now) }
     requires keys { CopiesAreSame K.is_clone }
     requires values { CopiesAreSame V.is_clone }
-    ensures low { IfOk result (λ halves. (arc_value halves.0).pairs ≡ take count (arc_value chunk.now).pairs) }
-    ensures high { IfOk result (λ halves. (arc_value halves.1).pairs ≡ drop count (arc_value chunk.now).pairs) }
+    ensures low { IfOk result (λ halves. chunk_pairs halves.0 ≡ take count (chunk_pairs chunk.now)) }
+    ensures high { IfOk result (λ halves. chunk_pairs halves.1 ≡ drop count (chunk_pairs chunk.now)) }
 {
     let low = Arc::new(alloc, chunk.part(0, count)?)?;
     let high = Arc::new(alloc, chunk.part(count, chunk.len())?)?;

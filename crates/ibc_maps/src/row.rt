@@ -4,7 +4,7 @@ ghost use Rattle.std.specs.Prelude.{◌≡◌, ◌<◌, ◌+◌, [], length, tak
 ghost use Rattle.std.specs.Arc.{arc_value};
 ghost use Rattle.ibc_ids.specs.Maps.{at, with, without};
 ghost use Rattle.ibc_maps.specs.Sides.{AllBelow, AllAbove};
-ghost use Rattle.ibc_maps.specs.Chunks.{joined_chunks, begins_above, CopiesAreSame, IsRow};
+ghost use Rattle.ibc_maps.specs.Chunks.{joined_chunks, begins_above, CopiesAreSame, IsRow, SetsAmong, RemovesAmong};
 
 use crate::chunk::{Chunk, first_chunk, halves, remove_in, set_in};
 use crate::pairs::ChunkPairs;
@@ -132,7 +132,7 @@ fn set_among<K: Ord + Clone + Drop, V: Clone + Drop>(
     requires keys { CopiesAreSame K.is_clone }
     requires values { CopiesAreSame V.is_clone }
     ensures row { IsRow K.cmp chunks.new.items }
-    ensures ok { OnOk result (joined_chunks chunks.new.items ≡ with K.cmp key value (joined_chunks chunks.old.items)) }
+    ensures ok { OnOk result (SetsAmong K.cmp key value chunks.old.items chunks.new.items) }
     ensures err { OnErr result (joined_chunks chunks.new.items ≡ joined_chunks chunks.old.items) }
 {
     let alloc = *chunks.allocator();
@@ -152,7 +152,7 @@ fn remove_among<K: Ord + Clone + Drop, V: Clone + Drop>(
     requires keys { CopiesAreSame K.is_clone }
     requires values { CopiesAreSame V.is_clone }
     ensures row { IsRow K.cmp chunks.new.items }
-    ensures ok { OnOk result (joined_chunks chunks.new.items ≡ without K.cmp key.now (joined_chunks chunks.old.items)) }
+    ensures ok { OnOk result (RemovesAmong K.cmp key.now chunks.old.items chunks.new.items) }
     ensures err { OnErr result (joined_chunks chunks.new.items ≡ joined_chunks chunks.old.items) }
 {
     let alloc = *chunks.allocator();

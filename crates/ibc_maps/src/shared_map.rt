@@ -5,8 +5,8 @@ ghost use Rattle.std.specs.Arc.{arc_value};
 ghost use Rattle.std.specs.FinMap.{is_sorted};
 ghost use Rattle.ibc_ids.specs.Maps.{at, with, without};
 ghost use Rattle.ibc_maps.specs.Chunks.{CopiesAreSame, TiesAreSame};
-ghost use Rattle.ibc_maps.specs.Changes.{with_change, with_changes};
-ghost use Rattle.ibc_maps.specs.SettledPairs.{settled_pairs, AreSettledSorted};
+ghost use Rattle.ibc_maps.specs.Changes.{with_change, with_changes, ComesToTheSame};
+ghost use Rattle.ibc_maps.specs.SettledPairs.{settled_pairs, AreSettledSorted, WritesShared, RewritesShared, WritesSettled, RewritesSettled};
 
 use crate::SortedMap;
 use crate::pairs::{ChunkPairs, Pairs};
@@ -243,8 +243,8 @@ fn write_settled<K: Ord + Clone + Drop, V: Clone + Drop>(
     requires values { CopiesAreSame V.is_clone }
     requires order { TiesAreSame K.cmp }
     requires sorted { AreSettledSorted K.cmp changes.now (settled_pairs settled.old) }
-    ensures ok { OnOk result (settled_pairs settled.new ≡ with_changes K.cmp changes.now (settled_pairs settled.old)) }
-    ensures again { OnErr result (with_changes K.cmp changes.now (settled_pairs settled.new) ≡ with_changes K.cmp changes.now (settled_pairs settled.old)) }
+    ensures ok { OnOk result (WritesSettled K.cmp changes.now settled.old settled.new) }
+    ensures again { OnErr result (RewritesSettled K.cmp changes.now settled.old settled.new) }
     ensures sorted { OnErr result (IsTrue (is_sorted K.cmp (settled_pairs settled.new))) }
 {
     match settled {
@@ -288,8 +288,8 @@ fn write_shared<K: Ord + Clone + Drop, V: Clone + Drop>(
     requires values { CopiesAreSame V.is_clone }
     requires order { TiesAreSame K.cmp }
     requires sorted { AreSettledSorted K.cmp changes.now (arc_value shared.old) }
-    ensures ok { OnOk result (arc_value shared.new ≡ with_changes K.cmp changes.now (arc_value shared.old)) }
-    ensures again { OnErr result (with_changes K.cmp changes.now (arc_value shared.new) ≡ with_changes K.cmp changes.now (arc_value shared.old)) }
+    ensures ok { OnOk result (WritesShared K.cmp changes.now shared.old shared.new) }
+    ensures again { OnErr result (RewritesShared K.cmp changes.now shared.old shared.new) }
     ensures sorted { OnErr result (IsTrue (is_sorted K.cmp (arc_value shared.new))) }
 {
     if let Some(own) = Arc::get_mut(shared) {
@@ -318,7 +318,7 @@ fn write_all<K: Ord + Clone + Drop, V: Clone + Drop>(
     requires order { TiesAreSame K.cmp }
     requires sorted { AreSettledSorted K.cmp changes.now row.old }
     ensures ok { OnOk result (row.new ≡ with_changes K.cmp changes.now row.old) }
-    ensures again { OnErr result (with_changes K.cmp changes.now row.new ≡ with_changes K.cmp changes.now row.old) }
+    ensures again { OnErr result (ComesToTheSame K.cmp changes.now row.old row.new) }
     ensures sorted { OnErr result (IsTrue (is_sorted K.cmp row.new)) }
 {
     for change in changes {

@@ -3,11 +3,8 @@
 ghost use Rattle.std.specs.Prelude.{◌≡◌, ◌+◌, ◌≤◌, ◌<◌, length, [], IsTrue, IsOk, OnOk, OnErr, IfOk, IfErr, None, option_copied, slice_range};
 ghost use Rattle.std.specs.Borrow.{sem};
 ghost use Rattle.std.specs.Option.{option_copied_mut};
-ghost use Rattle.std.specs.List.{HoldsAt};
-ghost use Rattle.std.specs.List.Sorted.{IsPartitionPoint};
 ghost use Rattle.std.specs.FinMap.{is_sorted};
-ghost use Rattle.std.specs.declared.cmp.Ordering.TheVariants.{Less, Equal, Greater};
-ghost use Rattle.ibc_ids.specs.Maps.{at, with, without};
+ghost use Rattle.ibc_ids.specs.Maps.{at, with, without, IsKeyAt, IsGapFor};
 
 use std::alloc::{AllocError, Global};
 use std::cmp::Ord;
@@ -175,9 +172,9 @@ impl<K: Ord, V> SortedMap<K, V> {
     // Where a key stands, or where it would stand.
     fn place(&self, key: &K) -> Result<usize, usize>
         ensures found { IfOk result (λ index. index < length self.now.pairs) }
-        ensures here { IfOk result (HoldsAt (λ entry. K.cmp entry.0 key.now ≡ Equal) self.now.pairs) }
+        ensures here { IfOk result (IsKeyAt K.cmp key.now self.now.pairs) }
         ensures within { IfErr result (λ index. index ≤ length self.now.pairs) }
-        ensures gap { IfErr result (IsPartitionPoint (λ entry. K.cmp entry.0 key.now ≡ Less) (λ entry. K.cmp entry.0 key.now ≡ Greater) self.now.pairs) }
+        ensures gap { IfErr result (IsGapFor K.cmp key.now self.now.pairs) }
     {
         self.entries
             .as_slice()

@@ -1,15 +1,13 @@
 //! The writing of proofs (ICS 23, "CreateMembershipProof" and "CreateNonMembershipProof").
 
-ghost use Rattle.std.specs.Prelude.{◌≡◌, ◌<◌, ◌≤◌, ◌++◌, Some, length, slice_get, IsTrue, IsSome, IsNone, IfOk, IsOkUnless};
-ghost use Rattle.std.specs.Option.{IsSomeAnd};
+ghost use Rattle.std.specs.Prelude.{◌≡◌, ◌<◌, ◌≤◌, Some, length, IsTrue, IsSome, IsNone, IfOk, IsOkUnless};
 ghost use Rattle.std.specs.FinMap.{is_sorted};
 ghost use Rattle.ibc_ids.specs.Texts.{text_cmp};
 ghost use Rattle.ibc_ids.specs.Maps.{at};
 ghost use Rattle.ibc_ids.specs.declared.refusal.Refusal.TheVariants.{NoMemory};
-ghost use Rattle.ibc_merkle.specs.Tree.{tree};
 ghost use Rattle.ibc_merkle.specs.NodeDigests.{digests_of};
-ghost use Rattle.ibc_merkle.specs.Written.{operations_to, presence_of, written_proof};
-ghost use Rattle.ibc_merkle.specs.PairPlaces.{key_at, pair_before};
+ghost use Rattle.ibc_merkle.specs.PlacedProofs.{AddsPathTo, own_proof, left_proof};
+ghost use Rattle.ibc_merkle.specs.Written.{written_proof};
 
 use crate::affix::Affix;
 use crate::entry::KeyValue;
@@ -79,7 +77,7 @@ fn presence_at(
     requires sorted { IsTrue (is_sorted text_cmp entries.now) }
     requires digests { digests.now ≡ digests_of entries.now }
     requires there { index < length entries.now }
-    ensures { IfOk result (λ presence. presence_of entries.now (slice_get entries.now index) ≡ Some presence) }
+    ensures { IfOk result (λ presence. own_proof entries.now index ≡ Some presence) }
 {
     let entry = &entries[index];
     let mut operations = Vec::new(alloc);
@@ -102,7 +100,7 @@ fn add_operations(
     requires sorted { IsTrue (is_sorted text_cmp entries.now) }
     requires digests { digests.now ≡ digests_of entries.now }
     requires there { index < length entries.now }
-    ensures { IfOk result (λ _. IsSomeAnd (operations_to (key_at entries.now index) (tree entries.now)) (λ added. operations.new.items ≡ operations.old.items ++ added)) }
+    ensures { IfOk result (λ _. AddsPathTo entries.now index operations.old.items operations.new.items) }
 {
     if entries.len() == 1 {
         return Ok(());
@@ -133,8 +131,8 @@ fn absence_at(
     requires digests { digests.now ≡ digests_of entries.now }
     requires within { index ≤ length entries.now }
     ensures key { IfOk result (λ absence. absence.key ≡ key.now) }
-    ensures left { IfOk result (λ absence. absence.left ≡ presence_of entries.now (pair_before entries.now index)) }
-    ensures right { IfOk result (λ absence. absence.right ≡ presence_of entries.now (slice_get entries.now index)) }
+    ensures left { IfOk result (λ absence. absence.left ≡ left_proof entries.now index) }
+    ensures right { IfOk result (λ absence. absence.right ≡ own_proof entries.now index) }
 {
     Ok(Absence {
         key: Bytes::copy_of(alloc, key)?,
@@ -153,7 +151,7 @@ fn left_neighbour(
     requires sorted { IsTrue (is_sorted text_cmp entries.now) }
     requires digests { digests.now ≡ digests_of entries.now }
     requires within { index ≤ length entries.now }
-    ensures { IfOk result (λ presence. presence ≡ presence_of entries.now (pair_before entries.now index)) }
+    ensures { IfOk result (λ presence. presence ≡ left_proof entries.now index) }
 {
     match index.checked_sub(1) {
         Some(before) => Ok(Some(presence_at(alloc, entries, digests, before)?)),
@@ -170,7 +168,7 @@ fn right_neighbour(
 ) -> Result<Option<Presence>, AllocError>
     requires sorted { IsTrue (is_sorted text_cmp entries.now) }
     requires digests { digests.now ≡ digests_of entries.now }
-    ensures { IfOk result (λ presence. presence ≡ presence_of entries.now (slice_get entries.now index)) }
+    ensures { IfOk result (λ presence. presence ≡ own_proof entries.now index) }
 {
     if index < entries.len() {
         Ok(Some(presence_at(alloc, entries, digests, index)?))

@@ -4,3 +4,4 @@ pub mod ChannelFronts
 pub mod PacketFronts
 pub mod TransferFronts
 pub mod MessageFront
+pub mod WrittenParts

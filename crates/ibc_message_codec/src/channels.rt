@@ -1,11 +1,7 @@
 //! How the messages of channels are spelled behind their tag.
 
-ghost use Rattle.std.specs.Prelude.{◌∷◌, []};
-ghost use Rattle.ibc_ids.specs.Names.{is_connection, is_port};
-ghost use Rattle.ibc_wire.specs.Fields.{one_byte, name};
-ghost use Rattle.ibc_wire.specs.Spelling.{order_number};
-ghost use Rattle.ibc_wire.specs.Fronts.{Writes};
 ghost use Rattle.ibc_message_codec.specs.ChannelFronts.{chan_open_init_fields, chan_open_try_fields, chan_open_ack_fields, chan_open_confirm_fields, chan_close_init_fields, chan_close_confirm_fields, chan_open_init_at_front, chan_open_try_at_front, chan_open_ack_at_front, chan_open_confirm_at_front, chan_close_init_at_front, chan_close_confirm_at_front};
+ghost use Rattle.ibc_message_codec.specs.WrittenParts.{WritesOpening};
 
 use crate::behind::{n8_behind, name_behind, str_behind, value_behind};
 use crate::parts::write_proof;
@@ -221,7 +217,7 @@ fn write_opening(
     connection: &ConnectionId,
     peer_port: &PortId,
 ) -> Result<(), Refusal>
-    ensures { Writes (name is_port port.now ∷ one_byte (order_number order.now) ∷ name is_connection connection.now ∷ name is_port peer_port.now ∷ []) out.old.items result out.new.items }
+    ensures { WritesOpening port.now order.now connection.now peer_port.now out.old result out.new }
 {
     write_name(out, port)?;
     order.write(out)?;

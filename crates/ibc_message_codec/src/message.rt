@@ -1,10 +1,11 @@
 //! How messages are spelled: a tag, and the fields behind it.
 
-ghost use Rattle.std.specs.Prelude.{◌≡◌, ◌⊎◌, None, Err, IsTrue, IfOk, IfErr, IsErrOf, IsOkUnless};
-ghost use Rattle.ibc_wire.specs.Fields.{Spells, HasOneValue, have_form};
+ghost use Rattle.std.specs.Prelude.{◌≡◌, ◌⊎◌, None, Err, IfOk, IfErr};
+ghost use Rattle.ibc_wire.specs.Fields.{Spells, HasOneValue};
 ghost use Rattle.ibc_wire.specs.Messages.{message_fields};
 ghost use Rattle.ibc_wire.specs.Fronts.{Gives, Writes, value_if_whole};
 ghost use Rattle.ibc_message_codec.specs.MessageFront.{message_behind, message_at_front, kind_at_front};
+ghost use Rattle.ibc_message_codec.specs.WrittenParts.{IsBadOutsideForm, IsWrittenInForm, IsBadUnspelt, IsReadIfSpelt};
 
 use crate::payload::{Payload, write_tagged};
 use ibc_ids::Refusal;
@@ -111,8 +112,8 @@ fn read_all(alloc: Global, bytes: &[u8]) -> Result<Message, Refusal>
 /// The bytes that spell a message. Refused: `BadMessage` exactly for a message outside its form; `NoMemory`.
 pub fn encode(alloc: Global, message: &Message) -> Result<Vec<u8>, Refusal>
     ensures ok { IfOk result (λ bytes. Spells (message_fields message.now) bytes.items) }
-    ensures bad { IsErrOf result Refusal.BadMessage → ¬ IsTrue (have_form (message_fields message.now)) }
-    ensures memory { IsTrue (have_form (message_fields message.now)) → IsOkUnless result Refusal.NoMemory }
+    ensures bad { IsBadOutsideForm result message.now }
+    ensures memory { IsWrittenInForm result message.now }
     ensures errors { IfErr result (λ e. (e ≡ Refusal.BadMessage) ⊎ (e ≡ Refusal.NoMemory)) }
 {
     let mut bytes = Vec::new(alloc);
@@ -125,8 +126,8 @@ pub fn encode(alloc: Global, message: &Message) -> Result<Vec<u8>, Refusal>
 /// found to be wrong.
 pub fn decode(alloc: Global, bytes: &[u8]) -> Result<Message, Refusal>
     ensures ok { IfOk result (λ message. Spells (message_fields message) bytes.now) }
-    ensures bad { IsErrOf result Refusal.BadMessage → (message : Message) → ¬ Spells (message_fields message) bytes.now }
-    ensures memory { (message : Message) → Spells (message_fields message) bytes.now → IsOkUnless result Refusal.NoMemory }
+    ensures bad { IsBadUnspelt result bytes.now }
+    ensures memory { IsReadIfSpelt result bytes.now }
     ensures unknown { kind_at_front bytes.now ≡ None → result ≡ Err Refusal.BadMessage }
     ensures errors { IfErr result (λ e. (e ≡ Refusal.BadMessage) ⊎ (e ≡ Refusal.NoMemory)) }
 {

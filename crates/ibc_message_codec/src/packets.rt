@@ -1,9 +1,7 @@
 //! How the messages of packets, their acknowledgements and timeouts are spelled behind their tag.
 
-ghost use Rattle.std.specs.Prelude.{◌∷◌, []};
-ghost use Rattle.ibc_wire.specs.Fields.{be64, str};
-ghost use Rattle.ibc_wire.specs.Fronts.{Writes};
 ghost use Rattle.ibc_message_codec.specs.PacketFronts.{recv_packet_fields, ack_packet_fields, timeout_fields, timeout_on_close_fields, recv_packet_at_front, ack_packet_at_front, timeout_at_front, timeout_on_close_at_front};
+ghost use Rattle.ibc_message_codec.specs.WrittenParts.{WritesProvenAck, WritesProvenAbsence, WritesProvenClose};
 
 use crate::behind::{n8_behind, str_behind};
 use crate::parts::{write_proof, write_proofs};
@@ -142,7 +140,7 @@ fn write_proven_ack(
     height: u64,
     proof: &Bytes,
 ) -> Result<(), Refusal>
-    ensures { Writes (str ack.now ∷ be64 height ∷ str proof.now ∷ []) out.old.items result out.new.items }
+    ensures { WritesProvenAck ack.now height proof.now out.old result out.new }
 {
     write_str(out, ack, u16::MAX)?;
     write_proof(out, height, proof)
@@ -155,7 +153,7 @@ fn write_proven_absence(
     height: u64,
     proof: &Bytes,
 ) -> Result<(), Refusal>
-    ensures { Writes (be64 next_recv ∷ be64 height ∷ str proof.now ∷ []) out.old.items result out.new.items }
+    ensures { WritesProvenAbsence next_recv height proof.now out.old result out.new }
 {
     write_n8(out, next_recv)?;
     write_proof(out, height, proof)
@@ -169,7 +167,7 @@ fn write_proven_close(
     proof: &Bytes,
     proof_close: &Bytes,
 ) -> Result<(), Refusal>
-    ensures { Writes (be64 next_recv ∷ be64 height ∷ str proof.now ∷ str proof_close.now ∷ []) out.old.items result out.new.items }
+    ensures { WritesProvenClose next_recv height proof.now proof_close.now out.old result out.new }
 {
     write_n8(out, next_recv)?;
     write_proofs(out, height, proof, proof_close)

@@ -2,9 +2,9 @@
 //! where writing the message may end early.
 
 ghost use Rattle.std.specs.Prelude.{◌∷◌, []};
-ghost use Rattle.ibc_ids.specs.Names.{is_memo, is_receiver};
-ghost use Rattle.ibc_wire.specs.Fields.{be64, str, name as a_name};
+ghost use Rattle.ibc_wire.specs.Fields.{be64, str};
 ghost use Rattle.ibc_wire.specs.Fronts.{Writes};
+ghost use Rattle.ibc_message_codec.specs.WrittenParts.{WritesProofs, WritesDelivery};
 
 use ibc_ids::{Bytes, Memo, Receiver, Refusal};
 use ibc_wire::fields::{write_n8, write_name, write_str};
@@ -24,7 +24,7 @@ pub fn write_proofs(
     first: &Bytes,
     second: &Bytes,
 ) -> Result<(), Refusal>
-    ensures { Writes (be64 height ∷ str first.now ∷ str second.now ∷ []) out.old.items result out.new.items }
+    ensures { WritesProofs height first.now second.now out.old result out.new }
 {
     write_proof(out, height, first)?;
     write_str(out, second, u16::MAX)
@@ -38,7 +38,7 @@ pub fn write_delivery(
     timeout_height: u64,
     timeout_time: u64,
 ) -> Result<(), Refusal>
-    ensures { Writes (a_name is_receiver receiver.now ∷ a_name is_memo memo.now ∷ be64 timeout_height ∷ be64 timeout_time ∷ []) out.old.items result out.new.items }
+    ensures { WritesDelivery receiver.now memo.now timeout_height timeout_time out.old result out.new }
 {
     write_name(out, receiver)?;
     write_name(out, memo)?;

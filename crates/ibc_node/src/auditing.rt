@@ -1,14 +1,11 @@
 //! A journal is audited.
 
-ghost use Rattle.std.specs.Prelude.{◌≡◌, Ok, Err, List, ℕ, option_copied, IfErr, IfOk, OnOk};
-ghost use Rattle.sqlite.specs.State.{HasCleanDisk, Survives};
+ghost use Rattle.std.specs.Prelude.{◌≡◌, Ok, Err, OnOk};
 ghost use Rattle.sqlite.specs.Held.{state};
-ghost use Rattle.ibc_journal.specs.Tables.{no_schema, journal_schema, JournalItem, IsJournal};
+ghost use Rattle.ibc_journal.specs.Tables.{no_schema, journal_schema};
 ghost use Rattle.ibc_journal.specs.Crashes.{LeavesNothing};
-ghost use Rattle.ibc_journal.specs.Restarts.{IsAtRest};
-ghost use Rattle.ibc_node.specs.Nodes.{IsGiven};
-ghost use Rattle.ibc_node.specs.Audits.{IsAuditOfJournal};
-ghost use Rattle.ibc_node.specs.Faults.{IsUnaudited};
+ghost use Rattle.ibc_journal.specs.Changes.{CrashLeaves};
+ghost use Rattle.ibc_node.specs.Starts.{AuditFails, AuditsGiven, AuditsJournal, RestsOn};
 
 use crate::NodeFault;
 use crate::opening::{judge, replay_from};
@@ -35,19 +32,15 @@ pub fn audit_journal<S: Alter>(
     conn: &mut Connection<S>,
     genesis: Option<&[u8]>,
 ) -> Result<JournalAudit, NodeFault>
-    ensures audited { (text : List ℕ) (items : List JournalItem) → IsJournal (state S.Store conn.old).now text items
-        → HasCleanDisk (state S.Store conn.new) → IfOk result (IsAuditOfJournal text items) }
-    ensures faults { (text : List ℕ) (items : List JournalItem) → IsJournal (state S.Store conn.old).now text items
-        → HasCleanDisk (state S.Store conn.new) → IfErr result (IsUnaudited (option_copied genesis.entry) text items) }
+    ensures audited { AuditsJournal (state S.Store) conn.old conn.new result }
+    ensures faults { AuditFails (state S.Store) conn.old conn.new genesis.entry result }
     // Where a genesis is given, it is the journal's own.
-    ensures asked { (text : List ℕ) (items : List JournalItem) → IsJournal (state S.Store conn.old).now text items
-        → HasCleanDisk (state S.Store conn.new) → OnOk result (IsGiven (option_copied genesis.entry) text) }
+    ensures asked { AuditsGiven (state S.Store) conn.old conn.new genesis.entry result }
     // The journal is what it was. A crash at any moment of the call leaves what it could leave before.
-    ensures rest { (text : List ℕ) (items : List JournalItem) → IsAtRest (state S.Store conn.old) text items
-        → HasCleanDisk (state S.Store conn.new) → OnOk result (IsAtRest (state S.Store conn.new) text items) }
+    ensures rest { RestsOn (state S.Store) conn.old conn.new result }
     ensures which { OnOk result ((state S.Store conn.old).now.schema ≡ journal_schema) }
     ensures empty { (state S.Store conn.old).now.schema ≡ no_schema → result ≡ Err NodeFault.NoJournal }
-    ensures crash { Survives (state S.Store conn.old) (state S.Store conn.new) (LeavesNothing (state S.Store conn.old)) }
+    ensures crash { CrashLeaves (state S.Store) conn.old conn.new LeavesNothing }
 {
     let looks = look(alloc, conn)?;
     match looks {
@@ -64,15 +57,11 @@ fn audit_entries<S: Alter>(
     conn: &mut Connection<S>,
     genesis: Option<&[u8]>,
 ) -> Result<JournalAudit, NodeFault>
-    ensures audited { (text : List ℕ) (items : List JournalItem) → IsJournal (state S.Store conn.old).now text items
-        → HasCleanDisk (state S.Store conn.new) → IfOk result (IsAuditOfJournal text items) }
-    ensures faults { (text : List ℕ) (items : List JournalItem) → IsJournal (state S.Store conn.old).now text items
-        → HasCleanDisk (state S.Store conn.new) → IfErr result (IsUnaudited (option_copied genesis.entry) text items) }
-    ensures asked { (text : List ℕ) (items : List JournalItem) → IsJournal (state S.Store conn.old).now text items
-        → HasCleanDisk (state S.Store conn.new) → OnOk result (IsGiven (option_copied genesis.entry) text) }
-    ensures rest { (text : List ℕ) (items : List JournalItem) → IsAtRest (state S.Store conn.old) text items
-        → HasCleanDisk (state S.Store conn.new) → OnOk result (IsAtRest (state S.Store conn.new) text items) }
-    ensures crash { Survives (state S.Store conn.old) (state S.Store conn.new) (LeavesNothing (state S.Store conn.old)) }
+    ensures audited { AuditsJournal (state S.Store) conn.old conn.new result }
+    ensures faults { AuditFails (state S.Store) conn.old conn.new genesis.entry result }
+    ensures asked { AuditsGiven (state S.Store) conn.old conn.new genesis.entry result }
+    ensures rest { RestsOn (state S.Store) conn.old conn.new result }
+    ensures crash { CrashLeaves (state S.Store) conn.old conn.new LeavesNothing }
 {
     let began = beginning_of(conn)?;
     judge(&began, genesis)?;

@@ -44,7 +44,7 @@ pub(crate) fn ask(
     ensures by { IfOk result (IsBy log_place) }
     ensures faults { IfErr result (λ fault. fault ≡ NodeFault.NoMemory) }
     ensures unknown { length world.old.ledgers ≤ chain_of event → result ≡ Ok (Asked.NotKept Refusal.UnknownChain) }
-    ensures unspelt { ¬ HasSpelling event → IsOkAnd result (λ asked. IsNotAsked world.old asked world.new) }
+    ensures unspelt { ¬ HasSpelling event → IsOkAnd result (λ a. IsNotAsked world.old a world.new) }
 {
     let chain = chain_of(&event);
     if !has_chain(world, chain) {

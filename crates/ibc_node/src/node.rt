@@ -1,17 +1,14 @@
 //! A world beside its journal.
 
-ghost use Rattle.std.specs.Prelude.{◌≡◌, ◌≢◌, ◌+◌, ◌<◌, ◌≤◌, ◌^◌, ◌++◌, ◌∷◌, [], List, ℕ, None, length, option_map, slice_get, IfErr, IfNone, IfOk, IfSome, IsOkAnd, OnErr, OnOk};
-ghost use Rattle.sqlite.specs.State.{HasCleanDisk, Survives};
+ghost use Rattle.std.specs.Prelude.{◌≡◌, ◌≢◌, ◌+◌, ◌<◌, ◌≤◌, ◌^◌, ◌∷◌, [], None, length, IfErr, IfNone, IfOk, IfSome, OnOk};
 ghost use Rattle.sqlite.specs.Held.{state};
 ghost use Rattle.ibc_machine.specs.declared.reply.Reply.TheVariants.{No};
 ghost use Rattle.ibc_machine.specs.ledger.Ledgers.{chain_of};
-ghost use Rattle.ibc_journal.specs.Tables.{JournalItem};
-ghost use Rattle.ibc_journal.specs.Entries.{item, items_of};
-ghost use Rattle.ibc_journal.specs.Crashes.{KeepsCommitted, Lasts};
-ghost use Rattle.ibc_node.specs.Kept.{HasSpelling};
-ghost use Rattle.ibc_node.specs.Marks.{marks_by, marks_at, IsLastPlace, node_marks};
-ghost use Rattle.ibc_node.specs.Faults.{IsOfFile, IsOfRoom};
-ghost use Rattle.ibc_node.specs.Nodes.{node_connection, node_journal, node_world, node_end, node_genesis, node_waiting, with_waiting, HasJournal, HasKept, IsToldIn, IsToldOf, TakesEvent, LeavesAll, StaysBeside, TellsOn};
+ghost use Rattle.ibc_journal.specs.Entries.{item};
+ghost use Rattle.ibc_node.specs.Marks.{IsLastPlace, node_marks};
+ghost use Rattle.ibc_node.specs.Faults.{IsOfRoom};
+ghost use Rattle.ibc_node.specs.Nodes.{node_connection, node_world, node_end, node_genesis, node_waiting, IsToldOf, StaysBeside, TellsOn};
+ghost use Rattle.ibc_node.specs.Turns.{FailsOfFile, FindsEntryAt, IsEndBehind, MarksAnswer, MarksWaiting, RefusesUnknown, RefusesUnspelt, SettleLeaves, SettlesAll, SettlesLasting, SettlesNone, TakesKept, TellsKept, WaitsBehind};
 
 use crate::NodeFault;
 use crate::keeping::{Asked, ask, chain_of};
@@ -79,7 +76,7 @@ fn digest_of(entry: &JournalEntry) -> Option<[u8; 32]>
 
 // How far a journal goes with one entry more, which has the digest that is due.
 fn end_behind(end: &Cursor, entry: &JournalEntry) -> Option<Cursor>
-    ensures after { IfSome result (λ after. after ≡ record { place = end.now.place + 1; last = (item entry.now).digest }) }
+    ensures after { IfSome result (IsEndBehind end.now (item entry.now)) }
     ensures none { length (item entry.now).digest ≡ 32 → IfNone result (2 ^ 32 ≤ end.now.place + 1) }
 {
     let Some(place) = end.place.checked_add(1) else {
@@ -170,14 +167,12 @@ impl<S: Alter> Node<S> {
     /// Asks the world for an event, which came by this place of a log, or by none where that is 0. Its entry waits to be put in: the
     /// reply is told after `settle`. After an error the node is dropped.
     pub fn take(&mut self, log_place: u32, event: Event) -> Result<KeptAnswer, NodeFault>
-        ensures taken { (text : List ℕ) (items : List JournalItem) → HasKept text items self.old
-            → IfOk result (λ answer. TakesEvent log_place text items self.old event answer self.new) }
-        ensures told { (text : List ℕ) (items : List JournalItem) → HasKept text items self.old
-            → IfOk result (λ answer. IsToldIn (node_world self.new) (chain_of event, answer)) }
+        ensures taken { TakesKept log_place self.old event self.new result }
+        ensures told { TellsKept self.old event self.new result }
         // A world that has no such chain isn't asked, and none for what no bytes spell.
-        ensures unknown { length (node_world self.old).ledgers ≤ chain_of event → IsOkAnd result (λ answer. answer.reply ≡ No Refusal.UnknownChain) }
-        ensures unspelt { ¬ HasSpelling event → IsOkAnd result (λ answer. (answer.place ≡ None) × (node_world self.new ≡ node_world self.old)) }
-        ensures marked { IfOk result (λ answer. node_marks self.new ≡ node_marks self.old ++ marks_at log_place answer.place) }
+        ensures unknown { RefusesUnknown self.old event result }
+        ensures unspelt { RefusesUnspelt self.old event self.new result }
+        ensures marked { IfOk result (MarksAnswer log_place self.old self.new) }
         ensures journal { node_connection self.new ≡ node_connection self.old }
         ensures genesis { node_genesis self.new ≡ node_genesis self.old }
         ensures keeps { OnOk result (StaysBeside (state S.Store) self.old self.new) }
@@ -208,9 +203,9 @@ impl<S: Alter> Node<S> {
     // Has an entry wait. Answers its place.
     fn wait_with(&mut self, log_place: u32, entry: JournalEntry) -> Result<u32, NodeFault>
         ensures place { IfOk result (λ place. place ≡ self.old.end.place) }
-        ensures waits { OnOk result (items_of self.new.waiting.items ≡ items_of self.old.waiting.items ++ item entry ∷ []) }
-        ensures marked { OnOk result (self.new.marks.items ≡ self.old.marks.items ++ marks_by log_place self.old.end.place) }
-        ensures end { OnOk result (self.new.end ≡ record { place = self.old.end.place + 1; last = (item entry).digest }) }
+        ensures waits { OnOk result (WaitsBehind self.old entry self.new) }
+        ensures marked { OnOk result (MarksWaiting log_place self.old self.new) }
+        ensures end { OnOk result (IsEndBehind self.old.end (item entry) self.new.end) }
         ensures world { self.new.world ≡ self.old.world }
         ensures journal { self.new.conn ≡ self.old.conn }
         ensures genesis { self.new.genesis.items ≡ self.old.genesis.items }
@@ -229,18 +224,12 @@ impl<S: Alter> Node<S> {
 
     /// Puts in the entries that wait, in one commit. After an error the node is dropped.
     pub fn settle(&mut self) -> Result<(), NodeFault>
-        ensures committed { (text : List ℕ) (items : List JournalItem) → HasJournal (state S.Store) text items self.old
-            → HasKept text (with_waiting items self.old) self.old
-            → HasCleanDisk (node_journal (state S.Store) self.new) → OnOk result (HasJournal (state S.Store) text (with_waiting items self.old) self.new) }
+        ensures committed { SettlesAll (state S.Store) self.old self.new result }
         // So a crash leaves all of them, and nothing less.
-        ensures lasts { (text : List ℕ) (items : List JournalItem) → HasJournal (state S.Store) text items self.old
-            → HasKept text (with_waiting items self.old) self.old
-            → HasCleanDisk (node_journal (state S.Store) self.new) → OnOk result (Lasts (node_journal (state S.Store) self.new) text (with_waiting items self.old)) }
+        ensures lasts { SettlesLasting (state S.Store) self.old self.new result }
         // After an error nothing of them is committed, as far as the connection is still open.
-        ensures refused { (text : List ℕ) (items : List JournalItem) → HasJournal (state S.Store) text items self.old
-            → HasKept text (with_waiting items self.old) self.old
-            → HasCleanDisk (node_journal (state S.Store) self.new) → OnErr result (KeepsCommitted (node_journal (state S.Store) self.old) (node_journal (state S.Store) self.new)) }
-        ensures faults { (text : List ℕ) (items : List JournalItem) → HasKept text (with_waiting items self.old) self.old → IfErr result IsOfFile }
+        ensures refused { SettlesNone (state S.Store) self.old self.new result }
+        ensures faults { FailsOfFile self.old result }
         ensures none { OnOk result (node_waiting self.new ≡ []) }
         ensures world { node_world self.new ≡ node_world self.old }
         ensures end { node_end self.new ≡ node_end self.old }
@@ -248,7 +237,7 @@ impl<S: Alter> Node<S> {
         ensures genesis { node_genesis self.new ≡ node_genesis self.old }
         ensures keeps { OnOk result (StaysBeside (state S.Store) self.old self.new) }
         // A crash at any moment of the call leaves what it could leave before the call, or all of what waited.
-        ensures crash { Survives (node_journal (state S.Store) self.old) (node_journal (state S.Store) self.new) (LeavesAll (state S.Store) self.old) }
+        ensures crash { SettleLeaves (state S.Store) self.old self.new }
     {
         let waiting = self.waiting.as_slice();
         let Some(first) = first_of(self.end.place, waiting) else {
@@ -287,19 +276,15 @@ impl<S: Alter> Node<S> {
 
     /// The entry at a place, or none. What waits is put in first.
     pub fn entry_at(&mut self, place: u32) -> Result<Option<JournalEntry>, NodeFault>
-        ensures found { (text : List ℕ) (items : List JournalItem) → HasJournal (state S.Store) text items self.old
-            → HasKept text (with_waiting items self.old) self.old
-            → HasCleanDisk (node_journal (state S.Store) self.new) → IfOk result (λ found. option_map item found ≡ slice_get (with_waiting items self.old) place) }
-        ensures rest { (text : List ℕ) (items : List JournalItem) → HasJournal (state S.Store) text items self.old
-            → HasKept text (with_waiting items self.old) self.old
-            → HasCleanDisk (node_journal (state S.Store) self.new) → OnOk result (HasJournal (state S.Store) text (with_waiting items self.old) self.new) }
+        ensures found { FindsEntryAt (state S.Store) self.old self.new place result }
+        ensures rest { SettlesAll (state S.Store) self.old self.new result }
         ensures none { OnOk result (node_waiting self.new ≡ []) }
         ensures world { node_world self.new ≡ node_world self.old }
         ensures end { node_end self.new ≡ node_end self.old }
         ensures marks { node_marks self.new ≡ node_marks self.old }
         ensures genesis { node_genesis self.new ≡ node_genesis self.old }
         ensures keeps { OnOk result (StaysBeside (state S.Store) self.old self.new) }
-        ensures faults { (text : List ℕ) (items : List JournalItem) → HasKept text (with_waiting items self.old) self.old → IfErr result IsOfFile }
+        ensures faults { FailsOfFile self.old result }
     {
         self.settle()?;
         Ok(entry_at(&mut self.conn, place)?)

@@ -1,21 +1,20 @@
 //! A node goes on where its journal ends.
 
-ghost use Rattle.std.specs.Prelude.{◌≡◌, ◌⊎◌, ◌≤◌, [], List, ℕ, pos, Ok, Some, option_copied, IfErr, IfOk, IsTrue, OnErr, OnOk};
-ghost use Rattle.sqlite.specs.State.{HasCleanDisk, Survives};
-ghost use Rattle.sqlite.specs.Start.{FindsIn};
-ghost use Rattle.sqlite.specs.View.{doubt};
+ghost use Rattle.std.specs.Prelude.{◌≡◌, [], pos, Ok, Some, option_copied, IfErr, IfOk, IsTrue, OnOk};
+ghost use Rattle.sqlite.specs.State.{HasCleanDisk};
 ghost use Rattle.sqlite.specs.WalFiles.{image_at};
 ghost use Rattle.sqlite.specs.Files.{IsOpened, file_state};
 ghost use Rattle.sqlite.specs.Held.{state};
-ghost use Rattle.ibc_machine.specs.chain.Genesis.{GenesisState, genesis_state, is_allowed};
+ghost use Rattle.ibc_machine.specs.chain.Genesis.{genesis_state, is_allowed};
 ghost use Rattle.ibc_replay.specs.Replays.{IsBeginning};
-ghost use Rattle.ibc_journal.specs.Tables.{no_schema, journal_schema, JournalItem, IsJournal};
-ghost use Rattle.ibc_journal.specs.Crashes.{KeepsCommitted, LeavesBegun, LeavesNothing};
-ghost use Rattle.ibc_journal.specs.Restarts.{IsAtRest, HoldsJournal};
-ghost use Rattle.ibc_node.specs.Marks.{marks_from, IsMarked};
-ghost use Rattle.ibc_node.specs.Nodes.{HoldsWholeJournal, IsBegun, IsGenesisText, is_given, IsGiven, IsRestarted, node_journal, node_genesis, node_waiting, HasJournal, GoesOnWith, IsFirstStart, BeginsAsGiven};
-ghost use Rattle.ibc_node.specs.Audits.{IfDiffers, OnDiffers, IsUnlawful};
-ghost use Rattle.ibc_node.specs.Faults.{IfFault, IsOfGenesis, IsUnreplayed, IsOfOther};
+ghost use Rattle.ibc_journal.specs.Tables.{no_schema};
+ghost use Rattle.ibc_journal.specs.Crashes.{LeavesBegun, LeavesNothing};
+ghost use Rattle.ibc_node.specs.Marks.{IsMarked};
+ghost use Rattle.ibc_node.specs.Nodes.{IsGenesisText, is_given, IsGiven, node_waiting, IsFirstStart};
+ghost use Rattle.ibc_node.specs.Faults.{IsOfGenesis};
+ghost use Rattle.ibc_journal.specs.Changes.{CommitsNoneOfEmpty, CrashLeaves};
+ghost use Rattle.ibc_node.specs.Starts.{BeginsAtRest, BeginsWithGiven, FindsFiles, FindsRowsFrom, HasGenesisFrom, HasGenesisOn, HasJournalOn, IsAsCalm, IsGivenFrom, IsGivenOn, IsJournalOrEmpty, IsMarkedFrom, IsMarkedOn, IsNewStart, IsOfOtherBeginning, IsUnmarked, IsWorldOfText, RestartsFrom, RestartsOn, RestsOn, StartsAgain, StartsAsGiven, StartsAtRest, StartsMarked, StartsWithGenesis, StartsWithGiven, StaysCalm};
+ghost use Rattle.ibc_node.specs.ReadBack.{DiffersUnlawful, MarksAll, ReplayFails, ReplaysJournal, RestsOnJournal, RestsWhereDiffers};
 
 use crate::reading::{LogMark, Past, read_all};
 use crate::unread::Unread;
@@ -44,19 +43,14 @@ pub fn open_at<S: Start>(
     start: S,
     genesis: Option<&[u8]>,
 ) -> Result<Node<FileStore<FileFrom<S>>>, NodeFault>
-    ensures restarted { (text : List ℕ) (items : List JournalItem) → HoldsWholeJournal (image_at S.Start) text items
-        → IfOk result (λ node. HasCleanDisk (node_journal file_state node) → GoesOnWith text items node × HasJournal file_state text items node) }
-    ensures genesis { (text : List ℕ) (items : List JournalItem) → HoldsWholeJournal (image_at S.Start) text items
-        → IfOk result (λ node. HasCleanDisk (node_journal file_state node) → node_genesis node ≡ text) }
+    ensures restarted { RestartsFrom file_state (image_at S.Start) result }
+    ensures genesis { HasGenesisFrom file_state (image_at S.Start) result }
     // A journal that began with another genesis than the one that is given is no node's.
-    ensures asked { (text : List ℕ) (items : List JournalItem) → HoldsWholeJournal (image_at S.Start) text items
-        → IfOk result (λ node. HasCleanDisk (node_journal file_state node) → IsGiven (option_copied genesis.entry) text) }
-    ensures marked { (text : List ℕ) (items : List JournalItem) → HoldsWholeJournal (image_at S.Start) text items
-        → IfOk result (λ node. HasCleanDisk (node_journal file_state node) → IsMarked items node) }
+    ensures asked { IsGivenFrom file_state (image_at S.Start) genesis.entry result }
+    ensures marked { IsMarkedFrom file_state (image_at S.Start) result }
     ensures none { IfOk result (λ node. node_waiting node ≡ []) }
     // Of files whose rows alone are known, it isn't known that they have the tables.
-    ensures rows { (text : List ℕ) (items : List JournalItem) → HoldsJournal (image_at S.Start) text items
-        → IfOk result (λ node. HasCleanDisk (node_journal file_state node) → GoesOnWith text items node ⊎ BeginsAsGiven (option_copied genesis.entry) node) }
+    ensures rows { FindsRowsFrom file_state (image_at S.Start) genesis.entry result }
 {
     let conn = connect(rt, path, start)?;
     open_node(rt.alloc(), conn, genesis)
@@ -69,7 +63,7 @@ fn connect<S: Start>(
     start: S,
 ) -> Result<Connection<FileStore<FileFrom<S>>>, NodeFault>
     ensures opened { IfOk result (λ conn. HasCleanDisk (file_state conn) → IsOpened conn) }
-    ensures found { IfOk result (λ conn. HasCleanDisk (file_state conn) → FindsIn (image_at S.Start) (file_state conn)) }
+    ensures found { IfOk result (FindsFiles file_state (image_at S.Start)) }
 {
     match Connection::open_from(rt, path, false, start) {
         Ok(conn) => Ok(conn),
@@ -84,24 +78,18 @@ pub fn open_node<S: Alter + Drop>(
     conn: Connection<S>,
     genesis: Option<&[u8]>,
 ) -> Result<Node<S>, NodeFault>
-    ensures restarted { (text : List ℕ) (items : List JournalItem) → IsAtRest (state S.Store conn) text items
-        → IfOk result (λ node. HasCleanDisk (node_journal (state S.Store) node) → GoesOnWith text items node) }
-    ensures rest { (text : List ℕ) (items : List JournalItem) → IsAtRest (state S.Store conn) text items
-        → IfOk result (λ node. HasCleanDisk (node_journal (state S.Store) node) → HasJournal (state S.Store) text items node) }
-    ensures begun { (state S.Store conn).now.schema ≡ no_schema → IfOk result (λ node. IsFirstStart node) }
-    ensures given { (state S.Store conn).now.schema ≡ no_schema → IfOk result (λ node. option_copied genesis.entry ≡ Some (node_genesis node)) }
-    ensures new { (state S.Store conn).now.schema ≡ no_schema
-        → IfOk result (λ node. HasCleanDisk (node_journal (state S.Store) node) → HasJournal (state S.Store) (node_genesis node) [] node) }
-    ensures genesis { (text : List ℕ) (items : List JournalItem) → IsAtRest (state S.Store conn) text items
-        → IfOk result (λ node. HasCleanDisk (node_journal (state S.Store) node) → node_genesis node ≡ text) }
-    ensures asked { (text : List ℕ) (items : List JournalItem) → IsAtRest (state S.Store conn) text items
-        → IfOk result (λ node. HasCleanDisk (node_journal (state S.Store) node) → IsGiven (option_copied genesis.entry) text) }
-    ensures marked { (text : List ℕ) (items : List JournalItem) → IsAtRest (state S.Store conn) text items
-        → IfOk result (λ node. HasCleanDisk (node_journal (state S.Store) node) → IsMarked items node) }
-    ensures unmarked { (state S.Store conn).now.schema ≡ no_schema → IfOk result (λ node. IsMarked [] node) }
+    ensures restarted { RestartsOn (state S.Store) conn result }
+    ensures rest { HasJournalOn (state S.Store) conn result }
+    ensures begun { (state S.Store conn).now.schema ≡ no_schema → IfOk result IsFirstStart }
+    ensures given { BeginsWithGiven (state S.Store) conn genesis.entry result }
+    ensures new { BeginsAtRest (state S.Store) conn result }
+    ensures genesis { HasGenesisOn (state S.Store) conn result }
+    ensures asked { IsGivenOn (state S.Store) conn genesis.entry result }
+    ensures marked { IsMarkedOn (state S.Store) conn result }
+    ensures unmarked { (state S.Store conn).now.schema ≡ no_schema → IfOk result (IsMarked []) }
     ensures none { IfOk result (λ node. node_waiting node ≡ []) }
-    ensures which { OnOk result (((state S.Store conn).now.schema ≡ journal_schema) ⊎ ((state S.Store conn).now.schema ≡ no_schema)) }
-    ensures calm { IfOk result (λ node. doubt (state S.Store conn).is_clean ≤ doubt (node_journal (state S.Store) node).is_clean) }
+    ensures which { OnOk result (IsJournalOrEmpty (state S.Store conn)) }
+    ensures calm { IfOk result (StaysCalm (state S.Store) conn) }
 {
     let mut conn = conn;
     let start = start_of(alloc, &mut conn, genesis)?;
@@ -128,23 +116,17 @@ fn start_of<S: Alter>(
     conn: &mut Connection<S>,
     genesis: Option<&[u8]>,
 ) -> Result<GoingOn, NodeFault>
-    ensures restarted { (text : List ℕ) (items : List JournalItem) → IsAtRest (state S.Store conn.old) text items
-        → HasCleanDisk (state S.Store conn.new) → IfOk result (λ start. IsRestarted text items start.world start.end) }
-    ensures rest { (text : List ℕ) (items : List JournalItem) → IsAtRest (state S.Store conn.old) text items
-        → HasCleanDisk (state S.Store conn.new) → OnOk result (IsAtRest (state S.Store conn.new) text items) }
-    ensures begun { (state S.Store conn.old).now.schema ≡ no_schema → IfOk result (λ start. IsBegun start.genesis.items start.world start.end) }
-    ensures given { (state S.Store conn.old).now.schema ≡ no_schema → IfOk result (λ start. option_copied genesis.entry ≡ Some start.genesis.items) }
-    ensures new { (state S.Store conn.old).now.schema ≡ no_schema
-        → HasCleanDisk (state S.Store conn.new) → IfOk result (λ start. IsAtRest (state S.Store conn.new) start.genesis.items []) }
-    ensures genesis { (text : List ℕ) (items : List JournalItem) → IsAtRest (state S.Store conn.old) text items
-        → HasCleanDisk (state S.Store conn.new) → IfOk result (λ start. start.genesis.items ≡ text) }
-    ensures asked { (text : List ℕ) (items : List JournalItem) → IsAtRest (state S.Store conn.old) text items
-        → HasCleanDisk (state S.Store conn.new) → OnOk result (IsGiven (option_copied genesis.entry) text) }
-    ensures marked { (text : List ℕ) (items : List JournalItem) → IsAtRest (state S.Store conn.old) text items
-        → HasCleanDisk (state S.Store conn.new) → IfOk result (λ start. start.marks.items ≡ marks_from 0 items) }
-    ensures unmarked { (state S.Store conn.old).now.schema ≡ no_schema → IfOk result (λ start. start.marks.items ≡ []) }
-    ensures which { OnOk result (((state S.Store conn.old).now.schema ≡ journal_schema) ⊎ ((state S.Store conn.old).now.schema ≡ no_schema)) }
-    ensures calm { OnOk result (doubt (state S.Store conn.old).is_clean ≤ doubt (state S.Store conn.new).is_clean) }
+    ensures restarted { StartsAgain (state S.Store) conn.old conn.new result }
+    ensures rest { RestsOn (state S.Store) conn.old conn.new result }
+    ensures begun { (state S.Store conn.old).now.schema ≡ no_schema → IfOk result IsNewStart }
+    ensures given { StartsWithGiven (state S.Store) conn.old genesis.entry result }
+    ensures new { StartsAtRest (state S.Store) conn.old conn.new result }
+    ensures genesis { StartsWithGenesis (state S.Store) conn.old conn.new result }
+    ensures asked { StartsAsGiven (state S.Store) conn.old conn.new genesis.entry result }
+    ensures marked { StartsMarked (state S.Store) conn.old conn.new result }
+    ensures unmarked { (state S.Store conn.old).now.schema ≡ no_schema → IfOk result IsUnmarked }
+    ensures which { OnOk result (IsJournalOrEmpty (state S.Store conn.old)) }
+    ensures calm { OnOk result (IsAsCalm (state S.Store conn.old) (state S.Store conn.new)) }
 {
     let looks = look(alloc, conn)?;
     match looks {
@@ -161,15 +143,13 @@ pub(crate) fn begin_with<S: Alter>(
     conn: &mut Connection<S>,
     genesis: &[u8],
 ) -> Result<GoingOn, NodeFault>
-    ensures begun { IfOk result (λ start. IsBegun start.genesis.items start.world start.end) }
+    ensures begun { IfOk result IsNewStart }
     ensures given { IfOk result (λ start. start.genesis.items ≡ genesis.now) }
-    ensures new { (state S.Store conn.old).now.schema ≡ no_schema
-        → HasCleanDisk (state S.Store conn.new) → IfOk result (λ start. IsAtRest (state S.Store conn.new) start.genesis.items []) }
-    ensures unmarked { IfOk result (λ start. start.marks.items ≡ []) }
+    ensures new { StartsAtRest (state S.Store) conn.old conn.new result }
+    ensures unmarked { IfOk result IsUnmarked }
     // After an error nothing is committed, as far as the connection is still open.
-    ensures refused { (state S.Store conn.old).now.schema ≡ no_schema
-        → HasCleanDisk (state S.Store conn.new) → OnErr result (KeepsCommitted (state S.Store conn.old) (state S.Store conn.new)) }
-    ensures crash { Survives (state S.Store conn.old) (state S.Store conn.new) (LeavesBegun (state S.Store conn.old) genesis.now) }
+    ensures refused { CommitsNoneOfEmpty (state S.Store) conn.old conn.new result }
+    ensures crash { CrashLeaves (state S.Store) conn.old conn.new (λ s. LeavesBegun s genesis.now) }
 {
     let text = Vec::from_slice(alloc, genesis)?;
     let world = world_of(alloc, genesis)?;
@@ -185,7 +165,7 @@ pub(crate) fn begin_with<S: Alter>(
 
 // The world of a text's genesis in the beginning.
 fn world_of(alloc: Global, text: &[u8]) -> Result<World, NodeFault>
-    ensures world { IfOk result (λ world. (genesis : GenesisState) × IsGenesisText text.now genesis × IsBeginning genesis world × IsTrue (is_allowed genesis)) }
+    ensures world { IfOk result (IsWorldOfText text.now) }
     ensures faults { IfErr result IsOfGenesis }
 {
     let genesis = genesis_of(alloc, text)?;
@@ -246,17 +226,12 @@ pub(crate) fn go_on<S: Alter>(
     conn: &mut Connection<S>,
     genesis: Option<&[u8]>,
 ) -> Result<GoingOn, NodeFault>
-    ensures restarted { (text : List ℕ) (items : List JournalItem) → IsAtRest (state S.Store conn.old) text items
-        → HasCleanDisk (state S.Store conn.new) → IfOk result (λ start. IsRestarted text items start.world start.end) }
-    ensures rest { (text : List ℕ) (items : List JournalItem) → IsAtRest (state S.Store conn.old) text items
-        → HasCleanDisk (state S.Store conn.new) → OnOk result (IsAtRest (state S.Store conn.new) text items) }
-    ensures genesis { (text : List ℕ) (items : List JournalItem) → IsAtRest (state S.Store conn.old) text items
-        → HasCleanDisk (state S.Store conn.new) → IfOk result (λ start. start.genesis.items ≡ text) }
-    ensures asked { (text : List ℕ) (items : List JournalItem) → IsAtRest (state S.Store conn.old) text items
-        → HasCleanDisk (state S.Store conn.new) → OnOk result (IsGiven (option_copied genesis.entry) text) }
-    ensures marked { (text : List ℕ) (items : List JournalItem) → IsAtRest (state S.Store conn.old) text items
-        → HasCleanDisk (state S.Store conn.new) → IfOk result (λ start. start.marks.items ≡ marks_from 0 items) }
-    ensures crash { Survives (state S.Store conn.old) (state S.Store conn.new) (LeavesNothing (state S.Store conn.old)) }
+    ensures restarted { StartsAgain (state S.Store) conn.old conn.new result }
+    ensures rest { RestsOn (state S.Store) conn.old conn.new result }
+    ensures genesis { StartsWithGenesis (state S.Store) conn.old conn.new result }
+    ensures asked { StartsAsGiven (state S.Store) conn.old conn.new genesis.entry result }
+    ensures marked { StartsMarked (state S.Store) conn.old conn.new result }
+    ensures crash { CrashLeaves (state S.Store) conn.old conn.new LeavesNothing }
 {
     let began = beginning_of(conn)?;
     judge(&began, genesis)?;
@@ -275,7 +250,7 @@ pub(crate) fn go_on<S: Alter>(
 pub(crate) fn judge(began: &Beginning, genesis: Option<&[u8]>) -> Result<(), NodeFault>
     ensures asked { OnOk result (IsGiven (option_copied genesis.entry) began.now.genesis.items) }
     ensures numbered { OnOk result (began.now.format ≡ pos 1) }
-    ensures faults { IfErr result (IsOfOther (option_copied genesis.entry) began.now.genesis.items began.now.format) }
+    ensures faults { IfErr result (IsOfOtherBeginning genesis.entry began.now) }
 {
     if began.format != i64::from(FORMAT) {
         return Err(NodeFault::OtherFormat(began.format));
@@ -302,19 +277,13 @@ pub(crate) fn replay_from<S: Alter>(
     conn: &mut Connection<S>,
     genesis: &[u8],
 ) -> Result<Past, Unread>
-    ensures restarted { (items : List JournalItem) → IsJournal (state S.Store conn.old).now genesis.now items
-        → HasCleanDisk (state S.Store conn.new) → IfOk result (λ past. IsRestarted genesis.now items past.world past.end) }
-    ensures marked { (items : List JournalItem) → IsJournal (state S.Store conn.old).now genesis.now items
-        → HasCleanDisk (state S.Store conn.new) → IfOk result (λ past. past.marks.items ≡ marks_from 0 items) }
-    ensures differs { (items : List JournalItem) → IsJournal (state S.Store conn.old).now genesis.now items
-        → HasCleanDisk (state S.Store conn.new) → IfErr result (IfDiffers (IsUnlawful genesis.now items)) }
-    ensures faults { (items : List JournalItem) → IsJournal (state S.Store conn.old).now genesis.now items
-        → HasCleanDisk (state S.Store conn.new) → IfErr result (IfFault (IsUnreplayed genesis.now items)) }
-    ensures rest { (items : List JournalItem) → IsAtRest (state S.Store conn.old) genesis.now items
-        → HasCleanDisk (state S.Store conn.new) → OnOk result (IsAtRest (state S.Store conn.new) genesis.now items) }
-    ensures left { (items : List JournalItem) → IsAtRest (state S.Store conn.old) genesis.now items
-        → HasCleanDisk (state S.Store conn.new) → IfErr result (OnDiffers (IsAtRest (state S.Store conn.new) genesis.now items)) }
-    ensures crash { Survives (state S.Store conn.old) (state S.Store conn.new) (LeavesNothing (state S.Store conn.old)) }
+    ensures restarted { ReplaysJournal (state S.Store) conn.old conn.new genesis.now result }
+    ensures marked { MarksAll (state S.Store) conn.old conn.new genesis.now result }
+    ensures differs { DiffersUnlawful (state S.Store) conn.old conn.new genesis.now result }
+    ensures faults { ReplayFails (state S.Store) conn.old conn.new genesis.now result }
+    ensures rest { RestsOnJournal (state S.Store) conn.old conn.new genesis.now result }
+    ensures left { RestsWhereDiffers (state S.Store) conn.old conn.new genesis.now result }
+    ensures crash { CrashLeaves (state S.Store) conn.old conn.new LeavesNothing }
 {
     let world = world_of(alloc, genesis)?;
     let past = read_all(alloc, conn, genesis, world)?;

@@ -1,20 +1,20 @@
 //! The entries of a journal are read back, and each is put to the world again.
 
-ghost use Rattle.std.specs.Prelude.{◌≡◌, ◌+◌, ◌≤◌, ◌++◌, ◌∷◌, [], false, take, length, List, ℕ, IfErr, IfOk, IsTrue, OnOk};
-ghost use Rattle.sqlite.specs.State.{HasCleanDisk, IsUnchanged, Survives};
+ghost use Rattle.std.specs.Prelude.{◌≡◌, ◌+◌, ◌≤◌, ◌++◌, ◌∷◌, [], false, List, IfErr, IfOk, IsTrue, OnOk};
 ghost use Rattle.sqlite.specs.Held.{state};
-ghost use Rattle.ibc_refinement.specs.World.{WorldState};
 ghost use Rattle.ibc_replay.specs.Replays.{GoesOnAsStored, StopsAt};
 ghost use Rattle.ibc_entry_codec.specs.Stored.{StoresEntry};
-ghost use Rattle.ibc_journal.specs.Tables.{JournalItem, IsJournal};
+ghost use Rattle.ibc_journal.specs.Tables.{JournalItem};
 ghost use Rattle.ibc_journal.specs.Entries.{item};
-ghost use Rattle.ibc_journal.specs.Digests.{HasReadTo, HasReadAll};
+ghost use Rattle.ibc_journal.specs.Digests.{HasReadTo};
 ghost use Rattle.ibc_journal.specs.Crashes.{LeavesNothing};
-ghost use Rattle.ibc_journal.specs.Restarts.{IsAtRest};
-ghost use Rattle.ibc_node.specs.Kept.{bytes_in, IsKeptAs, HasReplayed, ReplaysOne};
-ghost use Rattle.ibc_node.specs.Marks.{marks_by, marks_from};
-ghost use Rattle.ibc_node.specs.Faults.{fault_at, IsOfBytes, IsOfEntry, IfFault, IsUnreadAt, IsUnread};
-ghost use Rattle.ibc_node.specs.Audits.{IfDiffers, OnDiffers, IsUnreadBy, StopsAtItem, StopsAsKept};
+ghost use Rattle.ibc_node.specs.Kept.{bytes_in, IsKeptAs, ReplaysOne};
+ghost use Rattle.ibc_node.specs.Marks.{marks_by};
+ghost use Rattle.ibc_node.specs.Faults.{fault_at, IsOfBytes, IsOfEntry, IfFault};
+ghost use Rattle.ibc_node.specs.Audits.{IfDiffers, IsUnreadBy, StopsAtItem};
+ghost use Rattle.ibc_journal.specs.Changes.{CrashLeaves};
+ghost use Rattle.ibc_journal.specs.Reads.{LeavesTheSame};
+ghost use Rattle.ibc_node.specs.ReadBack.{DiffersAsKept, DiffersNext, EndsWhereNone, LeavesWhereDiffers, MarksAll, MarksNext, ReadFails, ReadNextFails, ReadsAll, ReadsOn, ReplaysEach, ReplaysNext, RestsOnJournal, RestsWhereDiffers};
 
 use crate::NodeFault;
 use crate::unread::Unread;
@@ -69,21 +69,14 @@ pub(crate) fn read_all<S: Alter>(
     genesis: &[u8],
     world: World,
 ) -> Result<Past, Unread>
-    ensures replayed { (items : List JournalItem) → IsJournal (state S.Store conn.old).now genesis.now items
-        → HasCleanDisk (state S.Store conn.new) → IfOk result (λ past. HasReplayed world items past.world) }
-    ensures read { (items : List JournalItem) → IsJournal (state S.Store conn.old).now genesis.now items
-        → HasCleanDisk (state S.Store conn.new) → IfOk result (λ past. HasReadAll genesis.now items past.end) }
-    ensures marked { (items : List JournalItem) → IsJournal (state S.Store conn.old).now genesis.now items
-        → HasCleanDisk (state S.Store conn.new) → IfOk result (λ past. past.marks.items ≡ marks_from 0 items) }
-    ensures differs { (items : List JournalItem) → IsJournal (state S.Store conn.old).now genesis.now items
-        → HasCleanDisk (state S.Store conn.new) → IfErr result (IfDiffers (StopsAsKept world items)) }
-    ensures faults { (items : List JournalItem) → IsJournal (state S.Store conn.old).now genesis.now items
-        → HasCleanDisk (state S.Store conn.new) → IfErr result (IfFault (IsUnread genesis.now items)) }
-    ensures rest { (items : List JournalItem) → IsAtRest (state S.Store conn.old) genesis.now items
-        → HasCleanDisk (state S.Store conn.new) → OnOk result (IsAtRest (state S.Store conn.new) genesis.now items) }
-    ensures left { (items : List JournalItem) → IsAtRest (state S.Store conn.old) genesis.now items
-        → HasCleanDisk (state S.Store conn.new) → IfErr result (OnDiffers (IsAtRest (state S.Store conn.new) genesis.now items)) }
-    ensures crash { Survives (state S.Store conn.old) (state S.Store conn.new) (LeavesNothing (state S.Store conn.old)) }
+    ensures replayed { ReplaysEach (state S.Store) conn.old conn.new genesis.now world result }
+    ensures read { ReadsAll (state S.Store) conn.old conn.new genesis.now result }
+    ensures marked { MarksAll (state S.Store) conn.old conn.new genesis.now result }
+    ensures differs { DiffersAsKept (state S.Store) conn.old conn.new genesis.now world result }
+    ensures faults { ReadFails (state S.Store) conn.old conn.new genesis.now result }
+    ensures rest { RestsOnJournal (state S.Store) conn.old conn.new genesis.now result }
+    ensures left { RestsWhereDiffers (state S.Store) conn.old conn.new genesis.now result }
+    ensures crash { CrashLeaves (state S.Store) conn.old conn.new LeavesNothing }
 {
     let mut past = Past::new(alloc, genesis, world);
     'reading: for _turn in 0..PLACES {
@@ -100,27 +93,16 @@ fn read_next<S: Alter>(
     conn: &mut Connection<S>,
     past: &mut Past,
 ) -> Result<bool, Unread>
-    ensures replayed { (genesis : List ℕ) (items : List JournalItem) (beginning : WorldState) → IsJournal (state S.Store conn.old).now genesis items → HasReadTo genesis items past.old.end
-        → HasReplayed beginning (take past.old.end.place items) past.old.world → HasCleanDisk (state S.Store conn.new)
-        → OnOk result (HasReplayed beginning (take past.new.end.place items) past.new.world) }
-    ensures read { (genesis : List ℕ) (items : List JournalItem) → IsJournal (state S.Store conn.old).now genesis items → HasReadTo genesis items past.old.end
-        → HasCleanDisk (state S.Store conn.new) → OnOk result (HasReadTo genesis items past.new.end) }
-    ensures marked { (genesis : List ℕ) (items : List JournalItem) → IsJournal (state S.Store conn.old).now genesis items → HasReadTo genesis items past.old.end
-        → past.old.marks.items ≡ marks_from 0 (take past.old.end.place items) → HasCleanDisk (state S.Store conn.new)
-        → OnOk result (past.new.marks.items ≡ marks_from 0 (take past.new.end.place items)) }
+    ensures replayed { ReplaysNext (state S.Store) conn.old conn.new past.old past.new result }
+    ensures read { ReadsOn (state S.Store) conn.old conn.new past.old past.new result }
+    ensures marked { MarksNext (state S.Store) conn.old conn.new past.old past.new result }
     ensures more { IfOk result (λ more. IsTrue more → past.new.end.place ≡ past.old.end.place + 1) }
-    ensures end { (genesis : List ℕ) (items : List JournalItem) → IsJournal (state S.Store conn.old).now genesis items → HasReadTo genesis items past.old.end
-        → HasCleanDisk (state S.Store conn.new) → IfOk result (λ more. more ≡ false → past.new.end.place ≡ length items) }
-    ensures differs { (genesis : List ℕ) (items : List JournalItem) (beginning : WorldState) → IsJournal (state S.Store conn.old).now genesis items → HasReadTo genesis items past.old.end
-        → HasReplayed beginning (take past.old.end.place items) past.old.world → HasCleanDisk (state S.Store conn.new)
-        → IfErr result (IfDiffers (StopsAsKept beginning items)) }
-    ensures faults { (genesis : List ℕ) (items : List JournalItem) → IsJournal (state S.Store conn.old).now genesis items → HasReadTo genesis items past.old.end
-        → HasCleanDisk (state S.Store conn.new) → IfErr result (IfFault (IsUnreadAt items past.old.end)) }
-    ensures same { (genesis : List ℕ) (items : List JournalItem) → IsJournal (state S.Store conn.old).now genesis items
-        → HasCleanDisk (state S.Store conn.new) → OnOk result (IsUnchanged (state S.Store conn.old) (state S.Store conn.new)) }
-    ensures left { (genesis : List ℕ) (items : List JournalItem) → IsJournal (state S.Store conn.old).now genesis items
-        → HasCleanDisk (state S.Store conn.new) → IfErr result (OnDiffers (IsUnchanged (state S.Store conn.old) (state S.Store conn.new))) }
-    ensures crash { Survives (state S.Store conn.old) (state S.Store conn.new) (LeavesNothing (state S.Store conn.old)) }
+    ensures end { EndsWhereNone (state S.Store) conn.old conn.new past.old past.new result }
+    ensures differs { DiffersNext (state S.Store) conn.old conn.new past.old result }
+    ensures faults { ReadNextFails (state S.Store) conn.old conn.new past.old result }
+    ensures same { LeavesTheSame (state S.Store) conn.old conn.new result }
+    ensures left { LeavesWhereDiffers (state S.Store) conn.old conn.new result }
+    ensures crash { CrashLeaves (state S.Store) conn.old conn.new LeavesNothing }
 {
     let place = past.end.place;
     match next(conn, &mut past.end) {

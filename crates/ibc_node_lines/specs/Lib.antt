@@ -6,3 +6,4 @@ pub mod Runs
 pub mod QuestionAnswers
 pub mod Requests
 pub mod Sessions
+pub mod Servers

@@ -126,7 +126,7 @@ fn mistaken_for(alloc: Global, line: u64, why: &str) -> Result<String, AllocErro
 
 /// What is found under a name, in hex, or `null`.
 pub fn found(alloc: Global, what: &str, bytes: Option<&[u8]>) -> Result<String, AllocError>
-    ensures { IfOk result (λ text. string_bytes text ≡ found_text what.now (option_copied bytes.entry)) }
+    ensures { IfOk result (λ it. string_bytes it ≡ found_text what.now (option_copied bytes.entry)) }
 {
     match bytes {
         Some(bytes) => {

@@ -1,12 +1,12 @@
 //! A node, as the steps of a script see it.
 
-ghost use Rattle.std.specs.Prelude.{◌≡◌, ◌++◌, ◌∷◌, [], List, ℕ, is_some, option_map, slice_get, IfOk, IsTrue, OnOk};
+ghost use Rattle.std.specs.Prelude.{◌≡◌, ◌++◌, ◌∷◌, [], is_some, slice_get, IfOk, IsTrue, OnOk};
 ghost use Rattle.sqlite.specs.Held.{state};
 ghost use Rattle.ibc_machine.specs.ledger.Ledgers.{chain_of, state_of};
-ghost use Rattle.ibc_journal.specs.Tables.{JournalItem};
-ghost use Rattle.ibc_script_worlds.specs.WorldChains.{plans_of, proof_in};
-ghost use Rattle.ibc_node.specs.Nodes.{node_world, HasKept, TellsOn};
-ghost use Rattle.ibc_node_lines.specs.Desks.{desk_chains, RunsStep, TellsEvent};
+ghost use Rattle.ibc_script_worlds.specs.WorldChains.{ArePlansOf, ledger_behind, proof_in};
+ghost use Rattle.ibc_node.specs.Nodes.{node_world};
+ghost use Rattle.ibc_node_lines.specs.Desks.{desk_chains, RunsStep};
+ghost use Rattle.ibc_node_lines.specs.Servers.{TellsJust, TellsTaken};
 
 use ibc_ids::{Account, Bytes, ChannelId, Denom, Key, PortId, Refusal};
 use ibc_ledger::Ledger;
@@ -95,9 +95,8 @@ impl<S: Alter + Drop> Desk<S> {
 
     /// Asks the node for an event, and tells what came of it.
     pub fn take(&mut self, log_place: u32, event: Event) -> Result<Vec<(u8, KeptAnswer)>, NodeFault>
-        ensures tells { IfOk result (λ told. TellsOn (state S.Store) self.old.node [] self.new.node told.items) }
-        ensures asked { (text : List ℕ) (items : List JournalItem) → HasKept text items self.old.node
-            → IfOk result (λ told. TellsEvent log_place text items self.old.node event told.items self.new.node) }
+        ensures tells { IfOk result (TellsJust (state S.Store) self.old.node self.new.node) }
+        ensures asked { TellsTaken log_place self.old.node event self.new.node result }
     {
         let chain = chain_of(&event);
         let kept = self.node.take(log_place, event)?;
@@ -113,7 +112,7 @@ impl<S: Alter + Drop> Desk<S> {
         log_place: u32,
         step: Step,
     ) -> Result<Vec<(u8, KeptAnswer)>, NodeFault>
-        ensures tells { IfOk result (λ told. TellsOn (state S.Store) self.old.node [] self.new.node told.items) }
+        ensures tells { IfOk result (TellsJust (state S.Store) self.old.node self.new.node) }
         ensures ran { IfOk result (λ told. RunsStep (state S.Store) names.now log_place step self.old.node told.items self.new.node) }
     {
         if names.len() > 8 {
@@ -164,7 +163,7 @@ impl<S: Alter + Drop> Desk<S> {
 
     // The ledger of a chain, where there is one.
     fn ledger(&self, chain: u8) -> Option<&Ledger>
-        ensures { option_map (λ ledger. ledger.now.ledger) result ≡ slice_get (node_world self.now.node).ledgers chain }
+        ensures { ledger_behind result ≡ slice_get (node_world self.now.node).ledgers chain }
     {
         self.node.world().ledger(chain)
     }
@@ -288,7 +287,7 @@ fn plans_if_there(
     first: Option<&Ledger>,
     second: Option<&Ledger>,
 ) -> Result<(Vec<Message>, Vec<Message>), Refusal>
-    ensures { IfOk result (λ plans. (plans.0.items, plans.1.items) ≡ plans_of (option_map (λ ledger. ledger.now.ledger) first.entry) (option_map (λ ledger. ledger.now.ledger) second.entry)) }
+    ensures { IfOk result (ArePlansOf first.entry second.entry) }
 {
     match (first, second) {
         (Some(first), Some(second)) => plans_between(alloc, first, second),

@@ -39,7 +39,7 @@ pub fn tell<S: Alter + Drop>(
 ) -> Result<Result<String, LineFault>, NodeFault>
     ensures read { OnOk result (IsOnlyRead (state S.Store) desk.old.node desk.new.node) }
     ensures answers { IfOk result (λ told. IfOk told (λ text. AnswersQuestion desk.old.node question (string_bytes text))) }
-    ensures which { IfOk result (λ told. is_ok told ≡ has_chains_of (node_world desk.old.node) question) }
+    ensures which { IfOk result (λ it. is_ok it ≡ has_chains_of (node_world desk.old.node) question) }
     ensures why { IfOk result (λ told. IfErr told (λ why. why ≡ LineFault.UnknownChain)) }
 {
     if !has_chains(desk, &question) {
@@ -203,7 +203,7 @@ fn tell_bytes(
     what: &str,
     bytes: Result<Option<Bytes>, Refusal>,
 ) -> Result<String, NodeFault>
-    ensures { IfOk result (λ text. IsOkAnd bytes (λ found. string_bytes text ≡ found_text what.now found)) }
+    ensures { IfOk result (λ it. IsOkAnd bytes (λ found. string_bytes it ≡ found_text what.now found)) }
 {
     match bytes {
         Ok(found) => Ok(told_bytes(alloc, what, found)?),

@@ -1,11 +1,12 @@
 //! A node and an audit from the files on, whatever these hold.
 
 ghost use Rattle.std.specs.Prelude.{◌≡◌, List, ℕ, option_copied, IfOk, OnOk};
-ghost use Rattle.sqlite.specs.State.{HasCleanDisk, Survives};
+ghost use Rattle.sqlite.specs.State.{HasCleanDisk};
 ghost use Rattle.sqlite.specs.WalFiles.{image_at};
 ghost use Rattle.sqlite.specs.Files.{file_state};
 ghost use Rattle.sqlite.specs.Held.{state};
 ghost use Rattle.ibc_journal.specs.Tables.{journal_schema, JournalItem};
+ghost use Rattle.ibc_journal.specs.Changes.{CrashLeaves};
 ghost use Rattle.ibc_journal.specs.Crashes.{LeavesNothing};
 ghost use Rattle.ibc_journal.specs.Restarts.{IsAtRest};
 ghost use Rattle.ibc_node.specs.Nodes.{node_journal, HoldsWholeJournal};
@@ -72,7 +73,7 @@ fn audit_told<S: Alter, W: Write>(
     ensures audited { (text : List ℕ) (items : List JournalItem) → IsAtRest (state S.Store conn.old) text items
         → HasCleanDisk (state S.Store conn.new) → OnOk result (HasAudited (option_copied genesis.entry) text items (state S.Store conn.new) (W.contents output.old) (W.contents output.new)) }
     ensures which { OnOk result ((state S.Store conn.old).now.schema ≡ journal_schema) }
-    ensures crash { Survives (state S.Store conn.old) (state S.Store conn.new) (LeavesNothing (state S.Store conn.old)) }
+    ensures crash { CrashLeaves (state S.Store) conn.old conn.new LeavesNothing }
 {
     let found = audit_journal(alloc, conn, genesis)?;
     let told = tell_audit(alloc, &found, output);

@@ -1,15 +1,14 @@
 //! A node answers lines, in their order.
 
-ghost use Rattle.std.specs.Prelude.{◌≡◌, ◌⊎◌, ◌<◌, ◌≤◌, ◌-◌, [], List, ℕ, length, nat_lt, true, IfOk, IsTrue, MatchResult, OnOk};
+ghost use Rattle.std.specs.Prelude.{◌≡◌, ◌<◌, ◌≤◌, ◌-◌, [], length, nat_lt, true, IfOk, IsTrue, OnOk};
 ghost use Rattle.std.specs.Io.KnownBytes.{Appends, Keeps};
-ghost use Rattle.sqlite.specs.State.{HasCleanDisk};
 ghost use Rattle.sqlite.specs.Held.{state};
-ghost use Rattle.ibc_journal.specs.Tables.{JournalItem};
-ghost use Rattle.ibc_node.specs.Nodes.{node_end, node_journal, node_waiting, with_waiting, HasJournal, HasKept, HasAll, TellsOn};
-ghost use Rattle.ibc_node_lines.specs.Desks.{IsOnlyRead, RunsStep, TellsEvent};
+ghost use Rattle.ibc_node.specs.Nodes.{node_waiting};
+ghost use Rattle.ibc_node_lines.specs.Desks.{IsOnlyRead};
 ghost use Rattle.ibc_node_lines.specs.OtherLines.{IsMistakenLine};
-ghost use Rattle.ibc_node_lines.specs.Sessions.{HasOneMore, HasTold, HasWritten, IsFairLine, ServesOn};
-ghost use Rattle.ibc_node_lines.specs.Told.{answers_in, answers_of, resumed_text};
+ghost use Rattle.ibc_node_lines.specs.Servers.{EndsWithAll, IsTextOrMistake, RunsByLine, Serves, Tells, TellsByLine, TellsFromStart, TellsOnLines, TellsTakenByLine, WritesBehind, WritesLines, WritesResumed};
+ghost use Rattle.ibc_node_lines.specs.Sessions.{HasOneMore, IsFairLine};
+ghost use Rattle.ibc_node_lines.specs.Told.{answers_of};
 
 use crate::answers::{mistaken, resumed};
 use crate::lines::lines_text;
@@ -35,9 +34,8 @@ pub fn serve<S: Alter + Drop, R: Read + Drop, W: Write>(
     output: &mut W,
     batch: usize,
 ) -> Result<Node<S>, NodeFault>
-    ensures all { (text : List ℕ) (items : List JournalItem) → HasJournal (state S.Store) text items node → HasKept text (with_waiting items node) node
-        → IfOk result (λ after. HasCleanDisk (node_journal (state S.Store) after) → HasAll (state S.Store) text items after) }
-    ensures told { IfOk result (λ after. HasTold (state S.Store) node (W.contents output.old) after (W.contents output.new)) }
+    ensures all { EndsWithAll (state S.Store) node result }
+    ensures told { IfOk result (TellsFromStart (state S.Store) W.contents node output.old output.new) }
 {
     let script = script_of(alloc, &node)?;
     let Script {
@@ -133,7 +131,7 @@ impl<S: Alter + Drop> Server<S> {
         output: &mut W,
         batch: usize,
     ) -> Result<(), NodeFault>
-        ensures told { OnOk result (self.old.told.items ≡ [] → HasTold (state S.Store) self.old.desk.node (W.contents output.old) self.new.desk.node (W.contents output.new)) }
+        ensures told { Tells (state S.Store) W.contents self.old output.old self.new output.new result }
         ensures none { OnOk result (node_waiting self.new.desk.node ≡ []) }
     {
         self.resume(output)?;
@@ -148,7 +146,7 @@ impl<S: Alter + Drop> Server<S> {
         output: &mut W,
         batch: usize,
     ) -> Result<(), NodeFault>
-        ensures { OnOk result (ServesOn (state S.Store) self.old.desk.node self.old.told.items (W.contents output.old) self.new.desk.node self.new.told.items (W.contents output.new)) }
+        ensures { Serves (state S.Store) W.contents self.old output.old self.new output.new result }
     {
         let mut input = input;
         'lines: for _turn in 0..u64::MAX {
@@ -167,7 +165,7 @@ impl<S: Alter + Drop> Server<S> {
         output: &mut W,
         batch: usize,
     ) -> Result<(), NodeFault>
-        ensures serves { OnOk result (ServesOn (state S.Store) self.old.desk.node self.old.told.items (W.contents output.old) self.new.desk.node self.new.told.items (W.contents output.new)) }
+        ensures serves { Serves (state S.Store) W.contents self.old output.old self.new output.new result }
         ensures few { OnOk result (length self.new.told.items ≤ batch - 1) }
     {
         if self.may_wait(input, batch) {
@@ -195,7 +193,7 @@ impl<S: Alter + Drop> Server<S> {
 
     // Answers the next line, if there is one.
     fn answer_next<R: Read>(&mut self, input: &mut BufReader<R>) -> Result<bool, NodeFault>
-        ensures tells { OnOk result (TellsOn (state S.Store) self.old.desk.node (answers_in self.old.told.items) self.new.desk.node (answers_in self.new.told.items)) }
+        ensures tells { OnOk result (TellsOnLines (state S.Store) self.old self.new) }
         ensures line { IfOk result (λ there. HasOneMore there self.old.told.items self.new.told.items) }
     {
         let mut line = Vec::new(self.alloc);
@@ -208,7 +206,7 @@ impl<S: Alter + Drop> Server<S> {
 
     // Tells where the node goes on.
     fn resume<W: Write>(&self, output: &mut W) -> Result<(), NodeFault>
-        ensures { OnOk result ((log_place : ℕ) × Appends (W.contents output.old) (W.contents output.new) (resumed_text (node_end self.now.desk.node).place log_place)) }
+        ensures { OnOk result (WritesResumed W.contents self.now.desk.node output.old output.new) }
     {
         let node = &self.desk.node;
         let text = resumed(self.alloc, node.entries(), node.log_place())?;
@@ -217,7 +215,7 @@ impl<S: Alter + Drop> Server<S> {
 
     // Answers a line; the answer is told when its entry is in the journal.
     fn answer(&mut self, line: &[u8]) -> Result<(), NodeFault>
-        ensures tells { OnOk result (TellsOn (state S.Store) self.old.desk.node (answers_in self.old.told.items) self.new.desk.node (answers_in self.new.told.items)) }
+        ensures tells { OnOk result (TellsOnLines (state S.Store) self.old self.new) }
         ensures line { OnOk result (HasOneMore true self.old.told.items self.new.told.items) }
     {
         self.number = self.number.saturating_add(1);
@@ -228,7 +226,7 @@ impl<S: Alter + Drop> Server<S> {
 
     // The answer to a line.
     fn line_for(&mut self, line: &[u8]) -> Result<NodeLine, NodeFault>
-        ensures answers { IfOk result (λ told. TellsOn (state S.Store) self.old.desk.node [] self.new.desk.node (answers_of told)) }
+        ensures answers { IfOk result (TellsByLine (state S.Store) self.old.desk.node self.new.desk.node) }
         ensures told { self.new.told.items ≡ self.old.told.items }
         ensures fair { IfOk result IsFairLine }
     {
@@ -240,7 +238,7 @@ impl<S: Alter + Drop> Server<S> {
 
     // The answer to what a line asks for.
     fn line_of(&mut self, request: NodeRequest) -> Result<NodeLine, NodeFault>
-        ensures answers { IfOk result (λ told. TellsOn (state S.Store) self.old.desk.node [] self.new.desk.node (answers_of told)) }
+        ensures answers { IfOk result (TellsByLine (state S.Store) self.old.desk.node self.new.desk.node) }
         ensures told { self.new.told.items ≡ self.old.told.items }
         ensures fair { IfOk result IsFairLine }
     {
@@ -252,7 +250,7 @@ impl<S: Alter + Drop> Server<S> {
 
     // Does what a line asks for, unless the place of a log that it names isn't above the last one.
     fn act(&mut self, log_place: u32, asked: NodeAction) -> Result<NodeLine, NodeFault>
-        ensures answers { IfOk result (λ told. TellsOn (state S.Store) self.old.desk.node [] self.new.desk.node (answers_of told)) }
+        ensures answers { IfOk result (TellsByLine (state S.Store) self.old.desk.node self.new.desk.node) }
         ensures told { self.new.told.items ≡ self.old.told.items }
         ensures fair { IfOk result IsFairLine }
     {
@@ -273,7 +271,7 @@ impl<S: Alter + Drop> Server<S> {
 
     // Tells what came of a line that had come before.
     fn again(&mut self, log_place: u32) -> Result<NodeLine, NodeFault>
-        ensures answers { IfOk result (λ told. TellsOn (state S.Store) self.old.desk.node [] self.new.desk.node (answers_of told)) }
+        ensures answers { IfOk result (TellsByLine (state S.Store) self.old.desk.node self.new.desk.node) }
         ensures told { self.new.told.items ≡ self.old.told.items }
         ensures fair { IfOk result IsFairLine }
     {
@@ -282,9 +280,8 @@ impl<S: Alter + Drop> Server<S> {
 
     // Asks for an event.
     fn take(&mut self, log_place: u32, event: Event) -> Result<NodeLine, NodeFault>
-        ensures answers { IfOk result (λ told. TellsOn (state S.Store) self.old.desk.node [] self.new.desk.node (answers_of told)) }
-        ensures asked { (text : List ℕ) (items : List JournalItem) → HasKept text items self.old.desk.node
-            → IfOk result (λ told. TellsEvent log_place text items self.old.desk.node event (answers_of told) self.new.desk.node) }
+        ensures answers { IfOk result (TellsByLine (state S.Store) self.old.desk.node self.new.desk.node) }
+        ensures asked { TellsTakenByLine log_place self.old.desk.node event self.new.desk.node result }
         ensures told { self.new.told.items ≡ self.old.told.items }
         ensures fair { IfOk result IsFairLine }
     {
@@ -293,7 +290,7 @@ impl<S: Alter + Drop> Server<S> {
 
     // Takes a step.
     fn act_step(&mut self, log_place: u32, step: Step) -> Result<NodeLine, NodeFault>
-        ensures answers { IfOk result (λ told. TellsOn (state S.Store) self.old.desk.node [] self.new.desk.node (answers_of told)) }
+        ensures answers { IfOk result (TellsByLine (state S.Store) self.old.desk.node self.new.desk.node) }
         ensures told { self.new.told.items ≡ self.old.told.items }
         ensures fair { IfOk result IsFairLine }
     {
@@ -305,8 +302,8 @@ impl<S: Alter + Drop> Server<S> {
 
     // Takes a step that asks for events.
     fn ask_by(&mut self, log_place: u32, step: Step) -> Result<NodeLine, NodeFault>
-        ensures answers { IfOk result (λ told. TellsOn (state S.Store) self.old.desk.node [] self.new.desk.node (answers_of told)) }
-        ensures ran { IfOk result (λ told. RunsStep (state S.Store) self.old.names.items log_place step self.old.desk.node (answers_of told) self.new.desk.node) }
+        ensures answers { IfOk result (TellsByLine (state S.Store) self.old.desk.node self.new.desk.node) }
+        ensures ran { IfOk result (RunsByLine (state S.Store) log_place step self.old self.new) }
         ensures told { self.new.told.items ≡ self.old.told.items }
         ensures fair { IfOk result IsFairLine }
     {
@@ -315,7 +312,7 @@ impl<S: Alter + Drop> Server<S> {
 
     // Answers a question.
     fn tell(&mut self, question: NodeQuestion) -> Result<NodeLine, NodeFault>
-        ensures answers { IfOk result (λ told. TellsOn (state S.Store) self.old.desk.node [] self.new.desk.node (answers_of told)) }
+        ensures answers { IfOk result (TellsByLine (state S.Store) self.old.desk.node self.new.desk.node) }
         ensures read { OnOk result (IsOnlyRead (state S.Store) self.old.desk.node self.new.desk.node) }
         ensures told { self.new.told.items ≡ self.old.told.items }
         ensures fair { IfOk result IsFairLine }
@@ -327,8 +324,7 @@ impl<S: Alter + Drop> Server<S> {
     // A line that tells of no event: a text, or what is wrong with what was read.
     fn other(&self, text: Result<String, LineFault>) -> Result<NodeLine, NodeFault>
         ensures none { IfOk result (λ told. answers_of told ≡ []) }
-        ensures text { IfOk result (λ told. MatchResult text (λ it. told ≡ NodeLine.Other it)
-            (λ why. IsMistakenLine self.now.number why told)) }
+        ensures text { IfOk result (IsTextOrMistake self.now.number text) }
     {
         match text {
             Ok(text) => Ok(NodeLine::Other(text)),
@@ -348,12 +344,9 @@ impl<S: Alter + Drop> Server<S> {
 
     // Puts in what waits, and then writes the answers. Where anything was written, the journal has all that the world keeps.
     fn settle<W: Write>(&mut self, output: &mut W) -> Result<(), NodeFault>
-        ensures told { (text : List ℕ) (items : List JournalItem) → HasJournal (state S.Store) text items self.old.desk.node
-            → HasKept text (with_waiting items self.old.desk.node) self.old.desk.node
-            → HasCleanDisk (node_journal (state S.Store) self.new.desk.node) → (W.contents output.new ≡ W.contents output.old)
-            ⊎ HasJournal (state S.Store) text (with_waiting items self.old.desk.node) self.new.desk.node }
-        ensures serves { OnOk result (ServesOn (state S.Store) self.old.desk.node self.old.told.items (W.contents output.old) self.new.desk.node self.new.told.items (W.contents output.new)) }
-        ensures written { OnOk result (HasWritten self.old.told.items (W.contents output.old) (W.contents output.new)) }
+        ensures told { WritesBehind (state S.Store) W.contents self.old output.old self.new output.new }
+        ensures serves { Serves (state S.Store) W.contents self.old output.old self.new output.new result }
+        ensures written { OnOk result (WritesLines W.contents self.old.told.items output.old output.new) }
         ensures none { OnOk result (node_waiting self.new.desk.node ≡ []) }
         ensures cleared { OnOk result (self.new.told.items ≡ []) }
     {
@@ -365,7 +358,7 @@ impl<S: Alter + Drop> Server<S> {
 
     // Writes the lines that wait.
     fn write_told<W: Write>(&self, output: &mut W) -> Result<(), NodeFault>
-        ensures { OnOk result (HasWritten self.now.told.items (W.contents output.old) (W.contents output.new)) }
+        ensures { OnOk result (WritesLines W.contents self.now.told.items output.old output.new) }
     {
         let text = lines_text(self.alloc, self.told.as_slice())?;
         write(output, text.as_str())

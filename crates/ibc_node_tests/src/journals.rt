@@ -6,7 +6,7 @@ use ibc_journal::{
     Beginning, Cursor, JournalEntry, JournalFault, Looks, append, audit, begin, beginning_of,
     entry_behind, first_digest, look, next,
 };
-use sqlite::{Alter, Connection, Error, params};
+use sqlite::{Alter, Connection, Error};
 use std::alloc::Global;
 use std::fs;
 use std::test::Fail;

@@ -1,2 +1,3 @@
 pub mod Laws
 pub mod AbstractNotes
+pub mod NoteHandlers

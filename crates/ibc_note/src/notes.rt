@@ -1,13 +1,14 @@
 //! The notes of a chain, as the application of port `note`.
 
-ghost use Rattle.std.specs.Prelude.{◌≡◌, codes, [], ◌∷◌, ◌++◌, List, map, Ok, OnOk, OnErr, IfOk, IsOkUnless};
+ghost use Rattle.std.specs.Prelude.{◌≡◌, codes, [], List, map, Ok, OnOk, OnErr, IfOk, IsOkUnless};
 ghost use Rattle.std.specs.Option.{unwrap_or};
 ghost use Rattle.ibc_ids.specs.Texts.{Text, same_text, text_cmp};
-ghost use Rattle.ibc_ids.specs.Maps.{at, with};
+ghost use Rattle.ibc_ids.specs.Maps.{at};
 ghost use Rattle.ibc_ids.specs.declared.refusal.Refusal.TheVariants.{NoMemory};
 ghost use Rattle.ibc_machine.specs.chain.Notes.{note_port, opens_for_notes, closes_for_notes, receive_note};
 ghost use Rattle.ibc_note.specs.Laws.{notes_open_or_refuse, notes_write_sized_acks};
 ghost use Rattle.ibc_note.specs.AbstractNotes.{abstract_notes};
+ghost use Rattle.ibc_note.specs.NoteHandlers.{AddsNote};
 
 use crate::list::NoteList;
 use ibc_ids::{Bytes, ChannelId, PortId, Refusal, Version};
@@ -68,7 +69,7 @@ impl Notes {
 
     // A note joins those of its channel.
     fn add(&mut self, channel: &ChannelId, note: Bytes) -> Result<(), Refusal>
-        ensures ok { OnOk result (self.new ≡ with text_cmp channel.now (unwrap_or (at text_cmp channel.now self.old) [] ++ note ∷ []) self.old) }
+        ensures ok { OnOk result (AddsNote channel.now note self.old self.new) }
         ensures err { IsOkUnless result NoMemory }
         ensures unchanged { OnErr result (self.new ≡ self.old) }
     {

@@ -1,15 +1,10 @@
 //! Sending notes.
 
-ghost use Rattle.std.specs.Prelude.{◌≡◌, ◌-◌, ◌^◌, ◌<◌, ℕ, Some, IfOk, IsOkUnless};
+ghost use Rattle.std.specs.Prelude.{◌≡◌, ◌-◌, ◌^◌, ◌<◌, IfOk, IsOkUnless};
 ghost use Rattle.ibc_ids.specs.declared.refusal.Refusal.TheVariants.{NoMemory};
-ghost use Rattle.ibc_machine.specs.declared.reply.Effect.TheVariants as effect;
 ghost use Rattle.ibc_machine.specs.chain.Notes as notes;
-ghost use Rattle.ibc_machine.specs.chain.Notes.{note_commitment};
-ghost use Rattle.ibc_machine.specs.ics04.Packets.{with_sent};
-ghost use Rattle.ibc_machine.specs.chain.Records.{channel_at};
-ghost use Rattle.ibc_records.specs.RecordsModel.{core_of};
-ghost use Rattle.ibc_records.specs.HandlerContract.{IsHandled};
-ghost use Rattle.ibc_records.specs.ProofVerdicts.{IsJudged};
+ghost use Rattle.ibc_records.specs.OwnEnds.{IsEndAt};
+ghost use Rattle.ibc_note.specs.NoteHandlers.{HandlesSendNote, JudgesSendNote};
 
 use ibc_ids::{PortId, Refusal};
 use ibc_records::{
@@ -24,7 +19,7 @@ use std::alloc::Global;
 /// height that the end's client knows of the peer; `NumberFull` where the next sequence is 2^64 - 1. `NoMemory` where a
 /// growth is refused. A refusal leaves the records.
 pub fn send_note(alloc: Global, records: &mut Records, message: &SendNote) -> Result<u64, Refusal>
-    ensures { (chain chains : ℕ) → IsHandled effect.Sent (notes.send_note message.now) chain chains records.old result records.new }
+    ensures { HandlesSendNote message.now records.old result records.new }
 {
     let port = note_port(alloc)?;
     judge_note(records, &port, message)?;
@@ -51,8 +46,8 @@ fn judge_note<'a>(
     message: &SendNote,
 ) -> Result<&'a Channel, Refusal>
     requires { port.now ≡ notes.note_port }
-    ensures judged { (chain chains : ℕ) → IsJudged (notes.send_note message.now) chain chains records.now (λ mine. with_sent port.now message.now.channel mine.now (note_commitment message.now) (core_of records.now)) result }
-    ensures there { IfOk result (λ mine. channel_at (core_of records.now) port.now message.now.channel ≡ Some mine.now) }
+    ensures judged { JudgesSendNote port.now message.now records.now result }
+    ensures there { IfOk result (λ mine. IsEndAt records.now port.now message.now.channel mine.now) }
     ensures free { IfOk result (λ mine. mine.now.next_send < 2 ^ 64 - 1) }
 {
     let mine = sending_end(records, port, &message.channel)?;

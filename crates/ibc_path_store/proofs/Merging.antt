@@ -4,7 +4,6 @@ use Rattle.std.specs.Prelude.{⊤}
 use Rattle.std.proofs.lemmas.Bool.{cases_Bool, false≢true}
 use Rattle.std.proofs.lemmas.List.{append_assoc, length-take-le}
 use Rattle.ibc_ids.specs.Texts.{Text, text_cmp}
-use Rattle.ibc_ids.specs.Maps.{at}
 use Rattle.ibc_ids.proofs.Texts.{text_cmp_total, text_tied, text_ties, lt_is_less}
 use Rattle.ibc_merkle.specs.Tree.{Pairs}
 use Rattle.ibc_merkle.specs.Proofs.{is_below}

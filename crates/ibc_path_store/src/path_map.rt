@@ -4,8 +4,7 @@ ghost use Rattle.std.specs.Prelude.{◌≡◌, ◌+◌, ◌≤◌, ◌<◌, [], 
 ghost use Rattle.std.specs.FinMap.{is_sorted};
 ghost use Rattle.ibc_ids.specs.Texts.{text_cmp};
 ghost use Rattle.ibc_ids.specs.Maps.{at, with, without};
-ghost use Rattle.ibc_merkle.specs.Tree.{Pairs};
-ghost use Rattle.ibc_path_store.specs.GapChanges.{Shares};
+ghost use Rattle.ibc_path_store.specs.GapChanges.{Shares, KeepsShared};
 ghost use Rattle.ibc_path_store.specs.Waiting.{AreFew};
 
 use crate::in_order::InOrder;
@@ -84,7 +83,7 @@ impl PathMap {
         ensures reserved { 0 < self.old.room → IsOk result }
         ensures room { self.old.room ≤ self.new.room + 1 }
         ensures err { OnErr result (self.new.pairs ≡ self.old.pairs) }
-        ensures shares { (last : Pairs) → Shares self.old.touched last self.old.pairs → Shares self.new.touched last self.new.pairs }
+        ensures shares { KeepsShared self.old self.new }
         ensures few { AreFew self.new.waiting (length self.new.pairs) }
     {
         let outcome = self.put(path, value);
@@ -98,7 +97,7 @@ impl PathMap {
         ensures reserved { 0 < self.old.room → IsOk result }
         ensures room { self.old.room ≤ self.new.room + 1 }
         ensures err { OnErr result (self.new.pairs ≡ self.old.pairs) }
-        ensures shares { (last : Pairs) → Shares self.old.touched last self.old.pairs → Shares self.new.touched last self.new.pairs }
+        ensures shares { KeepsShared self.old self.new }
     {
         let key = Bytes::from_vec(path.into_bytes());
         match find(self.entries.as_slice(), self.settled, key.as_slice()) {
@@ -144,7 +143,7 @@ impl PathMap {
     pub fn remove(&mut self, path: &str)
         ensures pairs { self.new.pairs ≡ without text_cmp path.now self.old.pairs }
         ensures room { self.old.room ≤ self.new.room }
-        ensures shares { (last : Pairs) → Shares self.old.touched last self.old.pairs → Shares self.new.touched last self.new.pairs }
+        ensures shares { KeepsShared self.old self.new }
         ensures few { AreFew self.new.waiting (length self.new.pairs) }
     {
         self.take_out(path);
@@ -155,7 +154,7 @@ impl PathMap {
     fn take_out(&mut self, path: &str)
         ensures pairs { self.new.pairs ≡ without text_cmp path.now self.old.pairs }
         ensures room { self.old.room ≤ self.new.room }
-        ensures shares { (last : Pairs) → Shares self.old.touched last self.old.pairs → Shares self.new.touched last self.new.pairs }
+        ensures shares { KeepsShared self.old self.new }
     {
         if let Ok(Position { row, index }) = find(
             self.entries.as_slice(),

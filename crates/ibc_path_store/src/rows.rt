@@ -1,12 +1,10 @@
 //! Pairs in their places, and behind them pairs that wait to be put there.
 
-ghost use Rattle.std.specs.Prelude.{◌≡◌, ◌+◌, ◌-◌, ◌≤◌, ◌<◌, length, take, drop, IsTrue, IfOk, IfErr};
-ghost use Rattle.std.specs.List.{HoldsAt};
-ghost use Rattle.std.specs.List.Sorted.{IsPartitionPoint};
+ghost use Rattle.std.specs.Prelude.{◌≡◌, ◌+◌, ◌-◌, ◌≤◌, ◌<◌, length, take, IsTrue, IfOk, IfErr};
 ghost use Rattle.std.specs.FinMap.{is_sorted};
-ghost use Rattle.std.specs.declared.cmp.Ordering.TheVariants.{Less, Equal, Greater};
 ghost use Rattle.ibc_ids.specs.Texts.{text_cmp};
 ghost use Rattle.ibc_path_store.specs.Waiting.{settled_pairs, turned_pairs, settled_without, AreRows, StandsAt, FitsAt};
+ghost use Rattle.ibc_ids.specs.Maps.{IsKeyAt, IsGapFor};
 
 use ibc_forest::SharedEntry;
 
@@ -93,9 +91,9 @@ fn put_last(entries: &mut [SharedEntry], settled: usize, waiting: usize) -> usiz
 fn search(entries: &[SharedEntry], path: &[u8]) -> Result<usize, usize>
     requires { IsTrue (is_sorted text_cmp entries.now) }
     ensures found { IfOk result (λ index. index < length entries.now) }
-    ensures here { IfOk result (HoldsAt (λ entry. text_cmp entry.0 path.now ≡ Equal) entries.now) }
+    ensures here { IfOk result (IsKeyAt text_cmp path.now entries.now) }
     ensures within { IfErr result (λ index. index ≤ length entries.now) }
-    ensures gap { IfErr result (IsPartitionPoint (λ entry. text_cmp entry.0 path.now ≡ Less) (λ entry. text_cmp entry.0 path.now ≡ Greater) entries.now) }
+    ensures gap { IfErr result (IsGapFor text_cmp path.now entries.now) }
 {
     entries.binary_search_by(|entry| entry.key().cmp(path))
 }

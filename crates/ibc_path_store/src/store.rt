@@ -1,18 +1,17 @@
 //! A store of records by path, with its committed heights.
 
-ghost use Rattle.std.specs.Prelude.{◌≡◌, ◌⊎◌, ◌↔◌, ◌+◌, ◌-◌, ◌*◌, ◌^◌, ◌≤◌, ◌<◌, ◌∷◌, ◌++◌, ℕ, [], length, min, IsTrue, IsOk, OnOk, OnErr, IfSome, IfOk, IfErr, IsNone, Some, None, slice_index_or, option_map, string_bytes, IsOkUnless};
+ghost use Rattle.std.specs.Prelude.{◌≡◌, ◌⊎◌, ◌↔◌, ◌+◌, ◌-◌, ◌^◌, ◌≤◌, ◌<◌, ◌∷◌, ◌++◌, [], length, min, IsTrue, IsOk, OnOk, OnErr, IfSome, IfOk, IfErr, IsNone, None, option_map, IsOkUnless};
 ghost use Rattle.std.specs.Option.{IsSomeAnd};
 ghost use Rattle.ibc_ids.specs.Texts.{text_cmp};
-ghost use Rattle.ibc_ids.specs.Maps.{at, with, without};
+ghost use Rattle.ibc_ids.specs.Maps.{at};
 ghost use Rattle.ibc_ids.specs.Paths.{path};
 ghost use Rattle.ibc_ids.specs.declared.refusal.Refusal.TheVariants.{NoMemory, NoConsensus, TimeBack};
 ghost use Rattle.ibc_merkle.specs.Tree.{tree_root};
-ghost use Rattle.ibc_merkle.specs.Written.{written_proof};
 ghost use Rattle.std.specs.FinMap.{is_sorted};
-ghost use Rattle.ibc_forest.specs.Counts.{CountsEachNewLeaf};
-ghost use Rattle.ibc_forest.specs.Leaves.{count_new, keys};
-ghost use Rattle.ibc_path_store.specs.StoreModel.{store_after_commit, height_of, kept_at};
+ghost use Rattle.ibc_path_store.specs.StoreModel.{height_of, kept_at};
 ghost use Rattle.ibc_path_store.specs.GapChanges.{Shares};
+ghost use Rattle.ibc_path_store.specs.StoreChanges.{SetsPath, RemovesPath, Commits, StoreCountsNew, StoreHashesFew, StoreHashesPathsOnOk, IsKeptProof, IsKeptIndex};
+ghost use Rattle.ibc_forest.specs.Commits.{CommitCountsNew, CommitHashesFew, CommitHashesPathsOnOk};
 
 use crate::path_map::PathMap;
 use crate::tree::CommittedTree;
@@ -118,7 +117,7 @@ impl Store {
     /// Sets the value of a path in the working map; both are moved in. `NoMemory` where a growth is refused, which is
     /// never so with room; the map is then as before.
     pub fn set(&mut self, path: String, value: Bytes) -> Result<(), Refusal>
-        ensures ok { OnOk result (self.new ≡ record self.old { pairs = with text_cmp (string_bytes path) value self.old.pairs; room = self.new.room }) }
+        ensures ok { OnOk result (SetsPath path value self.old self.new) }
         ensures reserved { 0 < self.old.room → IsOk result }
         ensures room { self.old.room ≤ self.new.room + 1 }
         ensures err { IsOkUnless result NoMemory }
@@ -136,7 +135,7 @@ impl Store {
 
     /// Removes a path and its value from the working map, if it is there.
     pub fn remove(&mut self, path: &str)
-        ensures pairs { self.new ≡ record self.old { pairs = without text_cmp path.now self.old.pairs; room = self.new.room } }
+        ensures pairs { RemovesPath path.now self.old self.new }
         ensures room { self.old.room ≤ self.new.room }
     {
         self.map.remove(path);
@@ -150,12 +149,12 @@ impl Store {
     pub fn commit(&mut self, next_time: u64) -> Result<Root, Refusal>
         requires { 0 < length self.old.pairs }
         ensures root { IfOk result (λ root. root ≡ tree_root self.old.pairs) }
-        ensures ok { OnOk result (self.new ≡ record (store_after_commit self.old next_time) { hashed = self.new.hashed }) }
+        ensures ok { OnOk result (Commits next_time self.old self.new) }
         ensures last { OnOk result (self.new.hashed.last ≡ self.old.pairs) }
         ensures more { self.old.hashed.digests ≤ self.new.hashed.digests }
-        ensures counts { OnOk result (CountsEachNewLeaf self.old.hashed.last self.old.pairs self.old.hashed.digests self.new.hashed.digests) }
-        ensures few { OnOk result (self.new.hashed.digests + 1 ≤ self.old.hashed.digests + 2 * count_new self.old.hashed.last self.old.pairs + length self.old.pairs) }
-        ensures same { keys self.old.pairs ≡ keys self.old.hashed.last → (log : ℕ) → length self.old.pairs ≤ 2 ^ log → OnOk result (self.new.hashed.digests ≤ self.old.hashed.digests + count_new self.old.hashed.last self.old.pairs * (2 + log)) }
+        ensures counts { OnOk result (StoreCountsNew self.old self.new) }
+        ensures few { OnOk result (StoreHashesFew self.old self.new) }
+        ensures same { StoreHashesPathsOnOk self.old self.new result }
         ensures size { OnOk result (length self.old.pairs < 2 ^ 64) }
         ensures time_back { (result ≡ Err TimeBack) ↔ (next_time < self.old.time) }
         ensures err { IfErr result (λ refusal. (refusal ≡ TimeBack) ⊎ (refusal ≡ NoMemory)) }
@@ -179,7 +178,7 @@ impl Store {
     /// absence where not (ICS 23, "CommitmentProof"). `NoConsensus` where the height isn't committed or is gone from the
     /// window, `NoMemory` where a growth is refused.
     pub fn prove(&self, height: u64, key: &Key) -> Result<Proof, Refusal>
-        ensures ok { IfOk result (λ proof. IsSomeAnd (kept_at self.now height) (λ kept. proof ≡ written_proof kept.0 (path key.now))) }
+        ensures ok { IfOk result (λ proof. IsKeptProof self.now height key.now proof) }
         ensures unknown { (result ≡ Err NoConsensus) ↔ IsNone (kept_at self.now height) }
         ensures err { IfErr result (λ refusal. (refusal ≡ NoConsensus) ⊎ (refusal ≡ NoMemory)) }
     {
@@ -204,7 +203,7 @@ impl Store {
     // The place of a height among those that are kept.
     fn kept_index(&self, height: u64) -> Option<usize>
         ensures there { IfSome result (λ index. index < length self.now.kept) }
-        ensures kept { IfSome result (λ index. kept_at self.now height ≡ Some (slice_index_or self.now.kept index ([], 0))) }
+        ensures kept { IfSome result (λ index. IsKeptIndex self.now height index) }
         ensures none { result ≡ None → kept_at self.now height ≡ None }
     {
         if height <= self.gone {
@@ -228,9 +227,9 @@ fn commit_map(forest: &mut Forest, map: &PathMap, time: u64) -> Result<Root, All
     ensures last { OnOk result (forest.new.last ≡ map.now.pairs) }
     ensures kept { OnOk result (forest.new.kept ≡ forest.old.kept ++ (map.now.pairs, time) ∷ []) }
     ensures more { forest.old.digests ≤ forest.new.digests }
-    ensures counts { OnOk result (CountsEachNewLeaf forest.old.last map.now.pairs forest.old.digests forest.new.digests) }
-    ensures few { OnOk result (forest.new.digests + 1 ≤ forest.old.digests + 2 * count_new forest.old.last map.now.pairs + length map.now.pairs) }
-    ensures same { keys map.now.pairs ≡ keys forest.old.last → (log : ℕ) → length map.now.pairs ≤ 2 ^ log → OnOk result (forest.new.digests ≤ forest.old.digests + count_new forest.old.last map.now.pairs * (2 + log)) }
+    ensures counts { OnOk result (CommitCountsNew map.now.pairs forest.old forest.new) }
+    ensures few { OnOk result (CommitHashesFew map.now.pairs forest.old forest.new) }
+    ensures same { CommitHashesPathsOnOk map.now.pairs forest.old forest.new result }
     ensures size { OnOk result (length map.now.pairs < 2 ^ 64) }
     ensures err { OnErr result (forest.new ≡ forest.old) }
 {

@@ -1,8 +1,7 @@
 //! Where a map was touched.
 
-ghost use Rattle.std.specs.Prelude.{◌≡◌, ◌+◌, ◌-◌, ◌<◌, ◌≤◌, ◌++◌, ◌∷◌, [], ℕ, true, false, Some, length, take, drop, slice_set, slice_index_or, option_map};
-ghost use Rattle.ibc_merkle.specs.Tree.{Pairs};
-ghost use Rattle.ibc_path_store.specs.GapChanges.{Shares, IsReplaced, IsMark, standing, no_gap, with_shorter_front, with_replacement};
+ghost use Rattle.std.specs.Prelude.{◌≡◌, ◌+◌, ◌-◌, ◌<◌, ◌≤◌, [], true, false, Some, length, take, slice_index_or, option_map};
+ghost use Rattle.ibc_path_store.specs.GapChanges.{IsMark, standing, no_gap, with_replacement, FollowsReplacement, PassesGaps, PassesGapsFor, LiesInGap, Widens, FitsInFront, Shrinks, PutsGap, ReplacesBehind};
 
 use ibc_forest::Gap;
 use std::alloc::Global;
@@ -88,7 +87,7 @@ impl Touched {
     #[tactic(auto, using(crate::proofs::Touching::shares_lost, crate::proofs::Touching::mark_none))]
     pub fn touch(&mut self, index: usize, gone: usize, come: usize)
         requires { gone ≤ 1 }
-        ensures { (last pairs after : Pairs) → Shares self.old last pairs → IsReplaced pairs after index gone come → Shares self.new last after }
+        ensures { FollowsReplacement self.old self.new index gone come }
     {
         if self.lost {
             return;
@@ -131,7 +130,7 @@ fn passed(gaps: &[Gap], mark: Mark, index: usize) -> Mark
     requires { IsMark gaps.now mark.number mark.before }
     ensures mark { IsMark gaps.now result.number result.before }
     ensures behind { result.before ≤ index }
-    ensures rest { (gone come : ℕ) → with_replacement gaps.now index gone come ≡ take result.number gaps.now ++ with_replacement (drop result.number gaps.now) (index - result.before) gone come }
+    ensures rest { PassesGaps gaps.now index result.number (index - result.before) }
 {
     if mark.before < index {
         mark
@@ -147,8 +146,8 @@ fn place_of(gaps: &[Gap], mark: Mark, index: usize, gone: usize) -> (usize, usiz
     requires mark { IsMark gaps.now mark.number mark.before }
     ensures within { result.0 ≤ length gaps.now }
     ensures counted { standing (take result.0 gaps.now) + result.1 ≡ index }
-    ensures rest { (come : ℕ) → with_replacement gaps.now index gone come ≡ take result.0 gaps.now ++ with_replacement (drop result.0 gaps.now) result.1 gone come }
-    ensures inside { let gap = slice_index_or gaps.now result.0 no_gap in result.0 < length gaps.now → gap.kept ≤ result.1 → result.1 - gap.kept + gone ≤ gap.come }
+    ensures rest { PassesGapsFor gone gaps.now index result.0 result.1 }
+    ensures inside { LiesInGap gaps.now result.0 result.1 gone }
 {
     let first = passed(gaps, mark, index);
     let mut before = index - first.before;
@@ -167,7 +166,7 @@ fn place_of(gaps: &[Gap], mark: Mark, index: usize, gone: usize) -> (usize, usiz
 fn widen(gaps: &mut [Gap], number: usize, gone: usize, come: usize) -> bool
     requires there { number < length gaps.old }
     requires gone { gone ≤ (slice_index_or gaps.old number no_gap).come }
-    ensures { let gap = slice_index_or gaps.old number no_gap in result ≡ true → gaps.new ≡ slice_set gaps.old number (record gap { come = gap.come - gone + come }) }
+    ensures { result ≡ true → Widens gaps.old gaps.new number gone come }
 {
     let gap = gaps[number];
     match (gap.come - gone).checked_add(come) {
@@ -182,8 +181,8 @@ fn widen(gaps: &mut [Gap], number: usize, gone: usize, come: usize) -> bool
 // Takes a gap that comes in front of another one from what stays there.
 #[tactic(auto, using(crate::proofs::Touching::shrunk_at, crate::proofs::Touching::shrunk_none))]
 fn shrink(gaps: &mut [Gap], number: usize, gap: Gap)
-    requires { number < length gaps.old → gap.kept + gap.gone ≤ (slice_index_or gaps.old number no_gap).kept }
-    ensures { gaps.new ≡ take number gaps.old ++ with_shorter_front (drop number gaps.old) (gap.kept + gap.gone) }
+    requires { FitsInFront gaps.old number gap }
+    ensures { Shrinks gaps.old gaps.new number gap }
 {
     if number < gaps.len() {
         let kept = gaps[number].kept;
@@ -195,8 +194,8 @@ fn shrink(gaps: &mut [Gap], number: usize, gap: Gap)
 #[tactic(auto, using(crate::proofs::Touching::insert_own))]
 fn put(gaps: &mut Vec<Gap>, number: usize, gap: Gap) -> bool
     requires there { number ≤ length gaps.old.items }
-    requires fits { number < length gaps.old.items → gap.kept + gap.gone ≤ (slice_index_or gaps.old.items number no_gap).kept }
-    ensures { result ≡ true → gaps.new.items ≡ take number gaps.old.items ++ gap ∷ with_shorter_front (drop number gaps.old.items) (gap.kept + gap.gone) }
+    requires fits { FitsInFront gaps.old.items number gap }
+    ensures { result ≡ true → PutsGap gaps.old.items gaps.new.items number gap }
 {
     shrink(gaps.as_mut_slice(), number, gap);
     gaps.insert(number, gap).is_ok()
@@ -208,8 +207,8 @@ fn put(gaps: &mut Vec<Gap>, number: usize, gap: Gap) -> bool
 fn touch_gaps(gaps: &mut Vec<Gap>, number: usize, before: usize, gone: usize, come: usize) -> bool
     requires one { gone ≤ 1 }
     requires within { number ≤ length gaps.old.items }
-    requires inside { let gap = slice_index_or gaps.old.items number no_gap in number < length gaps.old.items → gap.kept ≤ before → before - gap.kept + gone ≤ gap.come }
-    ensures { result ≡ true → gaps.new.items ≡ take number gaps.old.items ++ with_replacement (drop number gaps.old.items) before gone come }
+    requires inside { LiesInGap gaps.old.items number before gone }
+    ensures { result ≡ true → ReplacesBehind gaps.old.items gaps.new.items number before gone come }
 {
     if number < gaps.len() && gaps[number].kept <= before {
         return widen(gaps.as_mut_slice(), number, gone, come);

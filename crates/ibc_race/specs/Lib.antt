@@ -1,1 +1,2 @@
 pub mod SharedWorlds
+pub mod BookedLedgers

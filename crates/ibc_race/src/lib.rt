@@ -4,10 +4,9 @@
 ghost use Rattle.std.specs.Prelude.{◌≡◌, ◌⊎◌, ◌↔◌, All, Err, IfErr, IfOk, IsOkUnless, false, map};
 ghost use Rattle.ibc_ids.specs.declared.refusal.Refusal.TheVariants.{BadMessage, NoMemory};
 ghost use Rattle.ibc_machine.specs.chain.Genesis.{genesis_state, is_allowed};
-ghost use Rattle.ibc_refinement.specs.World.{AreNew};
-ghost use Rattle.ibc_world_core.specs.WorldModel.{ledgers_alone};
 ghost use Rattle.ibc_ledger_lock.specs.ReceiptsAndReadings.{HasAnswered, IsEarlierOnItsChain, IsOfWorld};
-ghost use Rattle.ibc_race.specs.SharedWorlds.{AreBroken, AreGathered, HasItsBook, IsAuditOf, book_of, numbers_of, table_of};
+ghost use Rattle.ibc_race.specs.SharedWorlds.{AreBroken, AreGathered, HasItsBook, IsAuditOf, numbers_of};
+ghost use Rattle.ibc_race.specs.BookedLedgers.{AreNewWithBooks, HaveTheirBooks};
 
 use ibc_ids::Refusal;
 use ibc_ledger::Ledger;
@@ -20,8 +19,8 @@ use std::sync::{Arc, Wait};
 /// The ledgers of a genesis in the beginning, by the numbers of their chains, each with an unused book. They are of one world.
 /// Refused: `BadMessage` exactly where no world begins so; `NoMemory`.
 pub fn begin(alloc: Global, genesis: &Genesis) -> Result<Vec<(Ledger, UnusedBook)>, Refusal>
-    ensures new { IfOk result (λ ledgers. AreNew (genesis_state genesis.now) (ledgers_alone (map (λ p. p.0) ledgers.items))) }
-    ensures books { IfOk result (λ ledgers. All (HasItsBook (table_of ledgers.items) (genesis_state genesis.now) (book_of ledgers.items)) ledgers.items) }
+    ensures new { IfOk result (λ ledgers. AreNewWithBooks (genesis_state genesis.now) ledgers.items) }
+    ensures books { IfOk result (λ ledgers. HaveTheirBooks (genesis_state genesis.now) ledgers.items) }
     ensures bad { (result ≡ Err BadMessage) ↔ (is_allowed (genesis_state genesis.now) ≡ false) }
     ensures err { IfErr result (λ refusal. (refusal ≡ BadMessage) ⊎ (refusal ≡ NoMemory)) }
 {

@@ -21,6 +21,10 @@ is_refused number (reply.No why) = number_of why == number
 abbrev pub refused_with : List ReceiptModel → ℕ → ℕ
 refused_with receipts number = count_by (λ (told : ReceiptModel). is_refused number told.reply) receipts
 
+-- how many receipts tell each refusal, by its number
+abbrev pub refused_counts : List ReceiptModel → List ℕ
+refused_counts receipts = map (refused_with receipts) (range_with_len 0 32)
+
 -- so many receipts there are, so many tell that the event was accepted, and so many that it was refused, by the refusals' numbers
 pub record AreCountsOf (receipts : List ReceiptModel) (counts : ReceiptCounts) : Type 0 where
   pub asked : counts.asked ≡ length receipts

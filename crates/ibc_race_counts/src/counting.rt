@@ -1,8 +1,8 @@
 //! What receipts come to.
 
-ghost use Rattle.std.specs.Prelude.{◌≡◌, All, IfOk, IsTrue, count_by, map, true};
-ghost use Rattle.std.specs.List.{AllZip, range_with_len};
-ghost use Rattle.ibc_race_counts.specs.CountedReceipts.{AreCountsOf, IsCountedOn, IsThere, is_accepted, is_refused, refused_with};
+ghost use Rattle.std.specs.Prelude.{◌≡◌, All, IfOk, IsTrue, count_by, true};
+ghost use Rattle.std.specs.List.{AllZip};
+ghost use Rattle.ibc_race_counts.specs.CountedReceipts.{AreCountsOf, IsCountedOn, IsThere, is_accepted, is_refused, refused_counts, refused_with};
 
 use crate::RelayerLog;
 use ibc_ledger_lock::{Chain, Receipt, WorldBrand};
@@ -104,7 +104,7 @@ fn refused_counts<W: WorldBrand>(
     alloc: Global,
     receipts: &[Receipt<W>],
 ) -> Result<Vec<u64>, AllocError>
-    ensures { IfOk result (λ counts. counts.items ≡ map (refused_with receipts.now) (range_with_len 0 32)) }
+    ensures { IfOk result (λ counts. counts.items ≡ refused_counts receipts.now) }
 {
     let mut list = Vec::new(alloc);
     for number in 0..REFUSAL_NUMBERS {

@@ -1,11 +1,9 @@
 //! What a relayer was answered.
 
-ghost use Rattle.std.specs.Prelude.{◌≡◌, [], IfOk, IsOkUnless, OnErr, map};
+ghost use Rattle.std.specs.Prelude.{◌≡◌, [], IfOk, IsOkUnless, OnErr};
 ghost use Rattle.ibc_ids.specs.declared.refusal.Refusal.TheVariants.{NoMemory};
 ghost use Rattle.ibc_machine.specs.ledger.Ledgers.{chain_of};
-ghost use Rattle.ibc_script_races.specs.KeptReceipts.{told_by};
-ghost use Rattle.ibc_race_counts.specs.AnsweredReceipts.{AreAnsweredReceipts};
-ghost use Rattle.ibc_script_races.specs.Racing.{IsAsked};
+ghost use Rattle.ibc_race_counts.specs.AnsweredReceipts.{AreAnsweredReceipts, IsAskedAndKept};
 
 use ibc_ids::Refusal;
 use ibc_ledger_lock::{Chain, Receipt, WorldBrand};
@@ -63,7 +61,7 @@ impl<W: WorldBrand> RelayerLog<W> {
     /// kept then.
     pub fn ask<R: Wait>(&mut self, rt: &R, chain: &Chain<W>, event: Event) -> Result<Reply, Refusal>
         requires { chain.now ≡ chain_of event }
-        ensures asked { IfOk result (λ reply. IsAsked (map told_by self.old) event reply (map told_by self.new)) }
+        ensures asked { IfOk result (IsAskedAndKept self.old event self.new) }
         ensures left { OnErr result (self.new ≡ self.old) }
         ensures err { IsOkUnless result NoMemory }
     {

@@ -1,15 +1,14 @@
 //! Races whose relayers are counted.
 
-ghost use Rattle.std.specs.Prelude.{◌≡◌, ◌⊎◌, ◌≤◌, ◌++◌, [], List, All, IfErr, IfOk, IsOkUnless, OnOk, length, map};
+ghost use Rattle.std.specs.Prelude.{◌≡◌, ◌⊎◌, ◌≤◌, ◌++◌, [], All, IfErr, IfOk, IsOkUnless, OnOk, length, map};
 ghost use Rattle.std.specs.List.{flat_map};
 ghost use Rattle.ibc_ids.specs.declared.refusal.Refusal.TheVariants.{NoMemory};
 ghost use Rattle.ibc_machine.specs.chain.Genesis.{genesis_state};
 ghost use Rattle.ibc_race.specs.SharedWorlds.{HasItsBook};
 ghost use Rattle.ibc_script.specs.Faults.{IsRunFault, IsScriptFault};
-ghost use Rattle.ibc_script.specs.declared.script.Step.{Step as TakenStep};
 ghost use Rattle.ibc_script_cli.specs.Runs.{asking_acts};
 ghost use Rattle.ibc_script_races.specs.KeptReceipts.{AreKept, told_by};
-ghost use Rattle.ibc_script_races.specs.Racing.{AreTaken, Takes};
+ghost use Rattle.ibc_script_races.specs.Racing.{AreTaken, ForTakenSteps, Takes, TakesAll};
 ghost use Rattle.ibc_race_counts.specs.CountedRaces.{IsCountedRaceOf};
 
 use crate::counting::counts_of_each;
@@ -171,7 +170,7 @@ fn take_each<R: Threads + Wait + Sync, W: WorldBrand + Send + Sync>(
     logs: &mut Vec<RelayerLog<W>>,
     steps: Vec<Step>,
 ) -> Result<(), Fault>
-    ensures taken { OnOk result (Takes runner.now.names.now (flat_map asking_acts steps.items) shared.old shared.new) }
+    ensures taken { OnOk result (TakesAll runner.now.names.now steps.items shared.old shared.new) }
     ensures faults { IfErr result IsRunFault }
 {
     for step in steps {
@@ -245,7 +244,7 @@ fn relay_on<R: Threads + Wait + Sync, W: WorldBrand + Send + Sync>(
 // What chains come to, and what was answered.
 fn counted<W: WorldBrand>(alloc: Global, taken: TakenRace<W>) -> Result<CountedRace, Fault>
     requires { AreKept taken.chains.items taken.receipts.items }
-    ensures counted { (steps : List TakenStep) → AreTaken steps (map told_by taken.receipts.items) → IfOk result (IsCountedRaceOf W.genesis steps) }
+    ensures counted { ForTakenSteps (IsCountedRaceOf W.genesis) taken.receipts.items result }
     ensures faults { IfErr result IsScriptFault }
 {
     let TakenRace {

@@ -1,8 +1,9 @@
 -- A client with what it knows, as a ledger holds it.
-use Rattle.std.specs.Prelude.{ℕ, max, []}
+use Rattle.std.specs.Prelude.{◌≡◌, ℕ, max, [], IfSome}
 use Rattle.std.specs.Map.{keys_of}
 use Rattle.std.specs.Ordering.{nat_cmp}
-use Rattle.ibc_ids.specs.Maps.{Map, with}
+use Rattle.ibc_ids.specs.Texts.{Text, text_cmp}
+use Rattle.ibc_ids.specs.Maps.{Map, at, with}
 use Rattle.ibc_wire.specs.declared.records.ClientState.{ClientState}
 use Rattle.ibc_machine.specs.chain.Records.{Client}
 use Rattle.ibc_records.specs.declared.client.ConsensusState.{ConsensusState}
@@ -26,3 +27,8 @@ with_height height state client =
       state = record { chain = client.state.chain; latest = max client.state.latest height };
       known = with nat_cmp height state client.known;
     }
+
+-- a client that is there knows one more height, and no other client changes
+abbrev pub LearnsHeight : Text → ℕ → ConsensusState → Map Text ClientModel → Map Text ClientModel → Type 0
+LearnsHeight id height known old new =
+    IfSome (at text_cmp id old) (λ client. new ≡ with text_cmp id (with_height height known client) old)

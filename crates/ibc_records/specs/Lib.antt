@@ -1,10 +1,16 @@
 pub mod Openings
 pub mod ClientModels
 pub mod RecordsModel
+pub mod CommittedHeights
+pub mod OwnEnds
+pub mod WhyRefused
 pub mod Entries
 pub mod Knowledge
 pub mod HandlerContract
+pub mod PacketHandlers
 pub mod Packets
+pub mod ChannelSteps
+pub mod AppAnswers
 pub mod RecordsFields
 pub mod ClientReplies
 pub mod HeaderChecks
@@ -12,3 +18,5 @@ pub mod Claims
 pub mod ProofVerdicts
 pub mod Peers
 pub mod TimeoutChecks
+pub mod PacketClaims
+pub mod Sending

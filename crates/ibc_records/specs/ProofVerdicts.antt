@@ -1,12 +1,13 @@
 -- How what a message brings is judged by records and proofs (ICS 2, "Client state verification functions").
 use Rattle.std.specs.Prelude.{◌≡◌, ◌⊎◌, ℕ, List, ⊤, Some, None, Result, Ok, Err}
+use Rattle.std.specs.Borrow.{Bor}
 use Rattle.ibc_ids.specs.Texts.{Text}
 use Rattle.ibc_ids.specs.declared.publication.Publication.{Publication}
 use Rattle.ibc_ids.specs.declared.refusal.Refusal.{Refusal}
 use Rattle.ibc_ids.specs.declared.refusal.Refusal.TheVariants.{NoMemory, UnknownClient}
 use Rattle.ibc_merkle.specs.declared.proof.Proof.{Proof}
 use Rattle.ibc_wire.specs.Reading.{proof_of}
-use Rattle.ibc_machine.specs.chain.Records.{Core, Client, client_at}
+use Rattle.ibc_machine.specs.chain.Records.{Core, Client, Channel, client_at}
 use Rattle.ibc_machine.specs.chain.Checks.{Checked, expect, ◌>>=◌}
 use Rattle.ibc_machine.specs.ics24.Values.{Claim}
 use Rattle.ibc_machine.specs.ics24.Evidence.{Host, Evidence, require_proof}
@@ -39,6 +40,10 @@ abbrev pub IsJudged : {A B : Type 0} → (Evidence → Host → Core → Checked
 IsJudged checks chain chains held given result =
     (seen : List Publication) (state : LedgerState) → Knows held state
     → IsPassed (checks (proof_evidence seen None state) (host_with chain chains held) (core_of held)) given result
+
+-- the same of checks that find an own channel end, on whichever chain
+abbrev pub IsJudgedEnd : (Evidence → Host → Core → Checked Channel) → RecordsModel → Result (Bor Channel) Refusal → Type 0
+IsJudgedEnd checks held result = (chain chains : ℕ) → IsJudged checks chain chains held (λ mine. mine.now) result
 
 -- what the evidence of roots and proofs says
 abbrev pub IsEvident : {A : Type 0} → RecordsModel → (Evidence → A) → A → Type 0

@@ -1,5 +1,5 @@
 -- The records of a chain as a ledger holds them: in plain, and as a store of paths.
-use Rattle.std.specs.Prelude.{◌≡◌, ◌+◌, ◌<◌, ℕ, [], map, IsTrue, Option, Some}
+use Rattle.std.specs.Prelude.{◌≡◌, ◌+◌, ◌<◌, ℕ, [], map, IsTrue, Option, Some, Result, IfOk}
 use Rattle.std.specs.FinMap.{is_sorted}
 use Rattle.std.specs.Option.{option_and_then}
 use Rattle.std.specs.Ordering.{nat_cmp}
@@ -80,6 +80,15 @@ pub record IsSoundRecords (held : RecordsModel) : Type 0 where
 abbrev pub core_from : NextNumbers → Core
 core_from next =
     record empty_core { next_client = next.client; next_connection = next.connection; next_channel = next.channel }
+
+-- where it is Ok, it is the core of these clients, connections and channels, and of the numbers of the next ones
+abbrev pub IsCoreOf : {E : Type 0} → NextNumbers → Map Text ClientModel → Map Text ConnectionEnd → Map (Text × Text) Channel → Result Core E → Type 0
+IsCoreOf next clients connections channels result =
+    IfOk result (λ plain. plain ≡ record (core_from next) { clients = map abstract_client_entry clients; connections = connections; channels = channels })
+
+-- the numbers of the next client, connection and channel
+abbrev pub next_numbers_of : RecordsModel → NextNumbers
+next_numbers_of held = record { client = held.next_client; connection = held.next_connection; channel = held.next_channel }
 
 -- records as of a chain in the beginning, whose working block has this time, but that the next ones have these numbers
 pub record IsCountingFrom (window time : ℕ) (next : NextNumbers) (held : RecordsModel) : Type 0 where

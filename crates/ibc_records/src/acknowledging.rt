@@ -1,14 +1,12 @@
 //! Taking acknowledgements.
 
-ghost use Rattle.std.specs.Prelude.{◌≡◌, ◌&&◌, ◌-◌, ◌^◌, ◌<◌, ℕ, true, Some, IfOk};
+ghost use Rattle.std.specs.Prelude.{◌≡◌, ◌&&◌, ◌-◌, ◌^◌, ◌<◌, true, Some, IfOk};
 ghost use Rattle.ibc_wire.specs.Reading.{proof_of};
-ghost use Rattle.ibc_machine.specs.declared.reply.Effect.TheVariants as effect;
 ghost use Rattle.ibc_machine.specs.ics04.Packets as plain;
-ghost use Rattle.ibc_machine.specs.ics04.Packets.{is_ordered, may_acknowledge, ack_checked, ack_packet};
-ghost use Rattle.ibc_machine.specs.chain.Records.{channel_at};
-ghost use Rattle.ibc_records.specs.RecordsModel.{core_of};
-ghost use Rattle.ibc_records.specs.HandlerContract.{IsHandledWith};
-ghost use Rattle.ibc_records.specs.ProofVerdicts.{IsJudged};
+ghost use Rattle.ibc_machine.specs.ics04.Packets.{may_acknowledge, ack_checked};
+ghost use Rattle.ibc_records.specs.OwnEnds.{IsSourceEnd, IsNextAck};
+ghost use Rattle.ibc_records.specs.PacketHandlers.{HandlesAck};
+ghost use Rattle.ibc_records.specs.ProofVerdicts.{IsJudgedEnd};
 
 use crate::claims::check_acknowledged;
 use crate::ends::{find_channel, has_peer, is_committed, is_open, known_over};
@@ -33,7 +31,7 @@ pub fn acknowledge<A: App>(
     app: &mut A,
     message: &AckPacket,
 ) -> Result<(), Refusal>
-    ensures { (chain chains : ℕ) → IsHandledWith (λ _. effect.None) (ack_packet A.is_acknowledged message.now) chain chains records.old app.old result records.new app.new }
+    ensures { HandlesAck A.is_acknowledged message.now records.old app.old result records.new app.new }
 {
     let mut memory = records.take_memory();
     let answer = acknowledge_with(alloc, records, &mut memory, app, message);
@@ -49,7 +47,7 @@ fn acknowledge_with<A: App>(
     app: &mut A,
     message: &AckPacket,
 ) -> Result<(), Refusal>
-    ensures { (chain chains : ℕ) → IsHandledWith (λ _. effect.None) (ack_packet A.is_acknowledged message.now) chain chains records.old app.old result records.new app.new }
+    ensures { HandlesAck A.is_acknowledged message.now records.old app.old result records.new app.new }
 {
     let form = is_in_form(message);
     let proof = proof_in_form(alloc, form, message.proof.as_slice())?;
@@ -77,9 +75,9 @@ fn judge_ack<'a>(
 ) -> Result<&'a Channel, Refusal>
     requires form { (plain.has_form message.now.packet && plain.has_size message.now.ack) ≡ true }
     requires reads { proof_of message.now.proof ≡ Some proof.now }
-    ensures judged { (chain chains : ℕ) → IsJudged (ack_checked message.now) chain chains records.now (λ mine. mine.now) result }
-    ensures there { IfOk result (λ mine. channel_at (core_of records.now) message.now.packet.source_port message.now.packet.source_channel ≡ Some mine.now) }
-    ensures next { IfOk result (λ mine. is_ordered mine.now ≡ true → mine.now.next_ack ≡ message.now.packet.sequence) }
+    ensures judged { IsJudgedEnd (ack_checked message.now) records.now result }
+    ensures there { IfOk result (λ mine. IsSourceEnd records.now message.now.packet mine.now) }
+    ensures next { IfOk result (λ mine. IsNextAck mine.now message.now.packet.sequence) }
 {
     let packet = &message.packet;
     let mine = find_channel(records, &packet.source_port, &packet.source_channel)?;
@@ -93,7 +91,7 @@ fn judge_ack<'a>(
 #[tactic(auto, unfolding(ibc_machine::specs::chain::Checks::and_then))]
 fn check_acknowledgeable(mine: &Channel, packet: &Packet) -> Result<(), Refusal>
     ensures checked { result ≡ may_acknowledge mine.now packet.now }
-    ensures next { IfOk result (λ _. is_ordered mine.now ≡ true → mine.now.next_ack ≡ packet.now.sequence) }
+    ensures next { IfOk result (λ _. IsNextAck mine.now packet.now.sequence) }
 {
     if !is_open(mine) {
         return Err(Refusal::WrongState);

@@ -1,12 +1,13 @@
 //! The application of a port.
 
-ghost use Rattle.std.specs.Prelude.{◌≡◌, ◌⊎◌, ⊤, Ok, Err, IsTrue, IfOk, IfErr, OnOk, OnErr, IsOkUnless};
+ghost use Rattle.std.specs.Prelude.{◌≡◌, ◌⊎◌, ⊤, Ok, IsTrue, IfOk, IfErr, OnOk, OnErr, IsOkUnless};
 ghost use Rattle.ibc_ids.specs.Texts.{Text};
 ghost use Rattle.ibc_ids.specs.declared.refusal.Refusal.TheVariants.{NoMemory, WrongOrder, WrongVersion, Poor, CloseRefused};
 ghost use Rattle.ibc_wire.specs.declared.packet.Packet.{Packet};
 ghost use Rattle.ibc_wire.specs.declared.records.Order.{Order};
 ghost use Rattle.ibc_machine.specs.chain.Checks.{Checked};
 ghost use Rattle.ibc_machine.specs.ics04.Packets.{has_size};
+ghost use Rattle.ibc_records.specs.WhyRefused.{IsRefusedAs};
 
 use ibc_ids::{Bytes, Refusal, Version};
 use ibc_wire::{Order, Packet};
@@ -51,7 +52,7 @@ pub trait App {
     /// `NoMemory` where a growth is refused.
     fn on_ack(&mut self, version: &Version, packet: &Packet, ack: &[u8]) -> Result<(), Refusal>
         ensures ok { OnOk result (is_acknowledged self.old version.now packet.now ack.now ≡ Ok self.new) }
-        ensures err { IfErr result (λ refusal. (refusal ≡ NoMemory) ⊎ (is_acknowledged self.old version.now packet.now ack.now ≡ Err refusal)) }
+        ensures err { IsRefusedAs (is_acknowledged self.old version.now packet.now ack.now) result }
         ensures unchanged { OnErr result (self.new ≡ self.old) };
 
     /// Learns that a packet that was sent over a channel of the version won't be received (ICS 20, "onTimeoutPacket").
@@ -59,7 +60,7 @@ pub trait App {
     /// refused.
     fn on_timeout(&mut self, version: &Version, packet: &Packet) -> Result<(), Refusal>
         ensures ok { OnOk result (times_out self.old version.now packet.now ≡ Ok self.new) }
-        ensures err { IfErr result (λ refusal. (refusal ≡ NoMemory) ⊎ (times_out self.old version.now packet.now ≡ Err refusal)) }
+        ensures err { IsRefusedAs (times_out self.old version.now packet.now) result }
         ensures unchanged { OnErr result (self.new ≡ self.old) };
 
     // An opening is refused for the order or the version alone.

@@ -1,6 +1,6 @@
 //! An end of a channel with its counters and its packets.
 
-ghost use Rattle.std.specs.Prelude.{◌≡◌, ◌⊎◌, ◌-◌, ◌^◌, ◌<◌, ◌≤◌, true, Ok, Err, IfOk, IfErr, OnOk, OnErr, IsTrue, option_copied, IsOkUnless};
+ghost use Rattle.std.specs.Prelude.{◌≡◌, ◌-◌, ◌^◌, ◌<◌, ◌≤◌, true, Ok, IfOk, OnOk, OnErr, IsTrue, option_copied, IsOkUnless};
 ghost use Rattle.std.specs.FinMap.{is_sorted};
 ghost use Rattle.std.specs.Ordering.{nat_cmp};
 ghost use Rattle.ibc_ids.specs.Maps.{at, without};
@@ -9,6 +9,8 @@ ghost use Rattle.ibc_machine.specs.chain.Records.{is_one_of};
 ghost use Rattle.ibc_machine.specs.ics04.Channels.{new_channel};
 ghost use Rattle.ibc_machine.specs.ics04.Packets.{is_ordered, after_send, after_receive, after_ack, after_timeout};
 ghost use Rattle.ibc_machine.specs.ics24.Values.{value_bytes, AckIs};
+ghost use Rattle.ibc_records.specs.AppAnswers.{AnswersPacket};
+ghost use Rattle.ibc_records.specs.WhyRefused.{IsRefusedAs};
 
 use crate::acknowledgement::{AckCopies, AckRoom};
 use crate::commitment::Commitment;
@@ -156,7 +158,7 @@ impl Channel {
         requires { self.old.next_send < 2 ^ 64 - 1 }
         ensures ok { OnOk result (self.new ≡ after_send commitment self.old) }
         ensures paid { OnOk result (P.pays payer.old bill.now ≡ Ok payer.new) }
-        ensures err { IfErr result (λ refusal. (refusal ≡ NoMemory) ⊎ (P.pays payer.old bill.now ≡ Err refusal)) }
+        ensures err { IsRefusedAs (P.pays payer.old bill.now) result }
         ensures unchanged { OnErr result ((self.new ≡ self.old) × (payer.new ≡ payer.old)) }
     {
         self.commitments.reserve(1)?;
@@ -177,10 +179,10 @@ impl Channel {
     ) -> Result<AckCopies, Refusal>
         requires counter { is_ordered self.old ≡ true → self.old.next_recv < 2 ^ 64 - 1 }
         requires room { 1024 ≤ room.old }
-        ensures answer { IfOk result (λ acks. (acks.reply, app.new) ≡ A.receives app.old self.old.end.version packet.now) }
+        ensures answer { AnswersPacket A.receives app.old self.old.end.version packet.now result app.new }
         ensures copy { IfOk result (λ acks. acks.copy ≡ acks.reply) }
         ensures value { IfOk result (λ acks. acks.value ≡ value_bytes (AckIs acks.reply)) }
-        ensures ok { IfOk result (λ acks. self.new ≡ after_receive packet.now.sequence acks.reply self.old) }
+        ensures ok { IfOk result (λ a. self.new ≡ after_receive packet.now.sequence a.reply self.old) }
         ensures err { IsOkUnless result NoMemory }
         ensures unchanged { OnErr result ((self.new ≡ self.old) × (app.new ≡ app.old)) }
     {
@@ -210,7 +212,7 @@ impl Channel {
         requires { is_ordered self.old ≡ true → self.old.next_ack < 2 ^ 64 - 1 }
         ensures ok { OnOk result (self.new ≡ after_ack packet.now.sequence self.old) }
         ensures told { OnOk result (A.is_acknowledged app.old self.old.end.version packet.now ack.now ≡ Ok app.new) }
-        ensures err { IfErr result (λ refusal. (refusal ≡ NoMemory) ⊎ (A.is_acknowledged app.old self.old.end.version packet.now ack.now ≡ Err refusal)) }
+        ensures err { IsRefusedAs (A.is_acknowledged app.old self.old.end.version packet.now ack.now) result }
         ensures unchanged { OnErr result ((self.new ≡ self.old) × (app.new ≡ app.old)) }
     {
         make_room(&mut self.commitments)?;
@@ -228,7 +230,7 @@ impl Channel {
     pub(crate) fn time_out<A: App>(&mut self, app: &mut A, packet: &Packet) -> Result<(), Refusal>
         ensures ok { OnOk result (self.new ≡ after_timeout packet.now.sequence self.old) }
         ensures told { OnOk result (A.times_out app.old self.old.end.version packet.now ≡ Ok app.new) }
-        ensures err { IfErr result (λ refusal. (refusal ≡ NoMemory) ⊎ (A.times_out app.old self.old.end.version packet.now ≡ Err refusal)) }
+        ensures err { IsRefusedAs (A.times_out app.old self.old.end.version packet.now) result }
         ensures unchanged { OnErr result ((self.new ≡ self.old) × (app.new ≡ app.old)) }
     {
         make_room(&mut self.commitments)?;

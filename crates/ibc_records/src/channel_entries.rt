@@ -3,7 +3,7 @@
 ghost use Rattle.std.specs.Prelude.{◌≡◌, ◌+◌, ◌&&◌, ◌≤◌, ◌∷◌, [], IsTrue, IfOk, OnOk, string_bytes, IsOkUnless};
 ghost use Rattle.ibc_ids.specs.Names.{is_port, is_channel};
 ghost use Rattle.ibc_ids.specs.declared.refusal.Refusal.TheVariants.{NoMemory};
-ghost use Rattle.ibc_records.specs.Entries.{with_all, new_entries};
+ghost use Rattle.ibc_records.specs.Entries.{new_entries, SetsPaths};
 
 use crate::packet_values::channel_counter;
 use crate::values::{channel_value, counter, set_reserved};
@@ -85,7 +85,7 @@ pub fn reserve_entries(
 /// Sets the paths of a new channel, for which there is room.
 pub fn set_entries(store: &mut Store, entries: ChannelEntries)
     requires { 5 ≤ store.old.room }
-    ensures set { store.new ≡ record store.old { pairs = with_all entries store.old.pairs; room = store.new.room } }
+    ensures set { SetsPaths store.old entries store.new }
     ensures room { store.old.room ≤ store.new.room + 5 }
 {
     let ChannelEntries {

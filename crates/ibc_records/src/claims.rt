@@ -1,14 +1,13 @@
 //! What messages of packets claim of the peer.
 
-ghost use Rattle.std.specs.Prelude.{◌≡◌, true, Some, IfOk, IsOkUnless};
+ghost use Rattle.std.specs.Prelude.{◌≡◌, IfOk, IsOkUnless};
 ghost use Rattle.ibc_ids.specs.declared.refusal.Refusal.TheVariants.{NoMemory};
-ghost use Rattle.ibc_machine.specs.ics04.Packets.{not_received, was_acknowledged, was_sent};
-ghost use Rattle.ibc_machine.specs.chain.Records.{commitment_of, connection_at, is_known_height};
+ghost use Rattle.ibc_machine.specs.ics04.Packets.{not_received};
+ghost use Rattle.ibc_machine.specs.chain.Records.{commitment_of};
 ghost use Rattle.ibc_machine.specs.ics24.Values.{value_bytes, CommitmentIs};
-ghost use Rattle.ibc_records.specs.RecordsModel.{core_of};
 ghost use Rattle.ibc_records.specs.ProofVerdicts.{IsShown};
-ghost use Rattle.ibc_records.specs.Peers.{IsPeerShown};
-ghost use Rattle.ibc_records.specs.TimeoutChecks.{expected_closed_end};
+ghost use Rattle.ibc_records.specs.OwnEnds.{KnowsHeight, IsConnectionAt};
+ghost use Rattle.ibc_records.specs.PacketClaims.{IsSentShown, IsAckShown, IsClosedShown};
 
 use crate::{
     Channel, Commitment, Records, ack_value, check_absent_with, check_claim_with,
@@ -29,8 +28,8 @@ pub fn check_sent(
     message: &RecvPacket,
     proof: &Proof,
 ) -> Result<(), Refusal>
-    requires { is_known_height (core_of records.now) client.now message.now.height ≡ true }
-    ensures { IsShown records.now client.now message.now.height (was_sent message.now.packet) proof.now result }
+    requires { KnowsHeight records.now client.now message.now.height }
+    ensures { IsSentShown records.now client.now message.now proof.now result }
 {
     let packet = &message.packet;
     let value = sent_value(alloc, packet)?;
@@ -74,8 +73,8 @@ pub fn check_acknowledged(
     message: &AckPacket,
     proof: &Proof,
 ) -> Result<(), Refusal>
-    requires { is_known_height (core_of records.now) client.now message.now.height ≡ true }
-    ensures { IsShown records.now client.now message.now.height (was_acknowledged message.now.packet message.now.ack) proof.now result }
+    requires { KnowsHeight records.now client.now message.now.height }
+    ensures { IsAckShown records.now client.now message.now proof.now result }
 {
     let packet = &message.packet;
     let value = ack_value(alloc, message.ack.as_slice())?;
@@ -110,7 +109,7 @@ pub fn check_not_received(
     next_recv: u64,
     proof: &Proof,
 ) -> Result<(), Refusal>
-    requires { is_known_height (core_of records.now) client.now height ≡ true }
+    requires { KnowsHeight records.now client.now height }
     ensures { IsShown records.now client.now height (not_received mine.now packet.now next_recv) proof.now result }
 {
     let port = packet.destination_port.clone()?;
@@ -135,9 +134,9 @@ pub fn check_closed(
     message: &TimeoutOnClose,
     proof: &Proof,
 ) -> Result<(), Refusal>
-    requires there { connection_at (core_of records.now) mine.now.end.connection ≡ Some connection.now }
-    requires known { is_known_height (core_of records.now) connection.now.client message.now.height ≡ true }
-    ensures { IsPeerShown records.now mine.now.end message.now.height message.now.packet.destination_channel (expected_closed_end (core_of records.now) message.now.packet mine.now.end) proof.now result }
+    requires there { IsConnectionAt records.now mine.now.end.connection connection.now }
+    requires known { KnowsHeight records.now connection.now.client message.now.height }
+    ensures { IsClosedShown records.now mine.now message.now proof.now result }
 {
     let packet = &message.packet;
     let end = mine.end();

@@ -1,8 +1,8 @@
 //! What a chain proves, in plain, as a value of its own.
 
-ghost use Rattle.std.specs.Prelude.{◌≡◌, map, IfOk};
+ghost use Rattle.std.specs.Prelude.{◌≡◌, map};
 ghost use Rattle.ibc_machine.specs.chain.Genesis.{empty_core};
-ghost use Rattle.ibc_records.specs.RecordsModel.{abstract_client_entry, core_from};
+ghost use Rattle.ibc_records.specs.RecordsModel.{abstract_client_entry, IsCoreOf};
 
 use crate::NextNumbers;
 use crate::maps::{Channels, Clients, Connections, no_channels, no_clients, no_connections};
@@ -60,7 +60,7 @@ impl CoreRecords {
         channels: &Channels,
         next: NextNumbers,
     ) -> Result<CoreRecords, AllocError>
-        ensures { IfOk result (λ plain. plain ≡ record (core_from next) { clients = map abstract_client_entry clients.now.pairs; connections = connections.now.pairs; channels = channels.now.pairs }) }
+        ensures { IsCoreOf next clients.now.pairs connections.now.pairs channels.now.pairs result }
     {
         Ok(CoreRecords {
             clients: clients.copy()?,

@@ -1,11 +1,8 @@
 //! Making clients.
 
-ghost use Rattle.std.specs.Prelude.{◌≡◌, ℕ, ◌<◌, IfOk};
+ghost use Rattle.std.specs.Prelude.{◌≡◌, ◌<◌, IfOk};
 ghost use Rattle.ibc_ids.specs.Paths.{nth_client};
-ghost use Rattle.ibc_machine.specs.ics02.Clients.{create_client};
-ghost use Rattle.ibc_machine.specs.ics24.Evidence.{Evidence};
-ghost use Rattle.ibc_records.specs.RecordsModel.{core_of};
-ghost use Rattle.ibc_records.specs.ClientReplies.{IsCreated};
+ghost use Rattle.ibc_records.specs.ClientReplies.{AnswersCreate};
 
 use crate::Records;
 use ibc_ids::{ClientId, Refusal, nth_client};
@@ -22,7 +19,7 @@ pub fn create(
     chains: u8,
     message: &CreateClient,
 ) -> Result<ClientId, Refusal>
-    ensures answer { (evidence : Evidence) (height time : ℕ) → IsCreated (create_client message.now evidence (record { chain = chain; chains = chains; height = height; time = time }) (core_of records.old)) message.now records.old result records.new }
+    ensures answer { AnswersCreate chain chains message.now records.old result records.new }
     ensures named { IfOk result (λ id. id ≡ nth_client records.old.next_client) }
 {
     if message.chain >= chains {

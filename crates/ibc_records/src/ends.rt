@@ -1,14 +1,13 @@
 //! The own end of a packet's channel.
 
-ghost use Rattle.std.specs.Prelude.{◌≡◌, ◌⊎◌, ◌&&◌, ◌==◌, nat_lt, true, Some, Ok, Err, IfOk, IfErr};
-ghost use Rattle.ibc_ids.specs.declared.refusal.Refusal.TheVariants.{NoMemory, UnknownChannel};
+ghost use Rattle.std.specs.Prelude.{◌≡◌, ◌&&◌, nat_lt, IfOk};
 ghost use Rattle.ibc_machine.specs.ics04.Channels as channels;
-ghost use Rattle.ibc_machine.specs.chain.Checks.{expect};
-ghost use Rattle.ibc_machine.specs.ics24.Evidence.{require_known};
 ghost use Rattle.ibc_machine.specs.ics04.Packets as plain;
-ghost use Rattle.ibc_machine.specs.chain.Records.{channel_at, commitment_of, connection_at, is_known_height};
+ghost use Rattle.ibc_machine.specs.chain.Records.{commitment_of};
 ghost use Rattle.ibc_machine.specs.ics24.Values.{same_commitment};
-ghost use Rattle.ibc_records.specs.RecordsModel.{core_of};
+ghost use Rattle.ibc_records.specs.OwnEnds.{IsEndAt, end_or_unknown, IsConnectionAt, KnowsHeight, PassesKnown, FailsKnown};
+ghost use Rattle.ibc_records.specs.TimeoutChecks.{same_timeouts};
+ghost use Rattle.ibc_records.specs.WhyRefused.{FailsBy};
 
 use crate::{Channel, Commitment, Records, known_connection};
 use ibc_ids::{ChannelId, PortId, Refusal};
@@ -20,8 +19,8 @@ pub fn find_channel<'a>(
     port: &PortId,
     channel: &ChannelId,
 ) -> Result<&'a Channel, Refusal>
-    ensures ok { IfOk result (λ mine. channel_at (core_of records.now) port.now channel.now ≡ Some mine.now) }
-    ensures err { IfErr result (λ refusal. (expect (channel_at (core_of records.now) port.now channel.now) UnknownChannel ≡ Err refusal) ⊎ (refusal ≡ NoMemory)) }
+    ensures ok { IfOk result (λ mine. IsEndAt records.now port.now channel.now mine.now) }
+    ensures err { FailsBy (end_or_unknown records.now port.now channel.now) result }
 {
     match records.channel(port, channel)? {
         Some(mine) => Ok(mine),
@@ -35,10 +34,10 @@ pub fn known_over<'a>(
     mine: &Channel,
     height: u64,
 ) -> Result<&'a ConnectionEnd, Refusal>
-    ensures there { IfOk result (λ connection. connection_at (core_of records.now) mine.now.end.connection ≡ Some connection.now) }
-    ensures known { IfOk result (λ connection. is_known_height (core_of records.now) connection.now.client height ≡ true) }
-    ensures passed { IfOk result (λ _. require_known (core_of records.now) (channels.client_of (core_of records.now) mine.now.end.connection) height ≡ Ok tt) }
-    ensures failed { IfErr result (λ refusal. require_known (core_of records.now) (channels.client_of (core_of records.now) mine.now.end.connection) height ≡ Err refusal) }
+    ensures there { IfOk result (λ end. IsConnectionAt records.now mine.now.end.connection end.now) }
+    ensures known { IfOk result (λ end. KnowsHeight records.now end.now.client height) }
+    ensures passed { PassesKnown records.now mine.now.end.connection height result }
+    ensures failed { FailsKnown records.now mine.now.end.connection height result }
 {
     known_connection(records, &mine.end().connection, height)
 }
@@ -87,7 +86,7 @@ fn commits_to(found: &Commitment, packet: &Packet) -> bool
 
 // Whether a commitment has the packet's timeouts.
 fn has_timeouts(found: &Commitment, packet: &Packet) -> bool
-    ensures { result ≡ ((found.now.timeout_height == packet.now.timeout_height) && (found.now.timeout_time == packet.now.timeout_time)) }
+    ensures { result ≡ same_timeouts found.now packet.now }
 {
     found.timeout_height == packet.timeout_height && found.timeout_time == packet.timeout_time
 }

@@ -1,12 +1,11 @@
 //! Checks that the messages of connections, channels and packets share.
 
-ghost use Rattle.std.specs.Prelude.{◌≡◌, ◌⊎◌, ◌-◌, ◌^◌, ◌<◌, true, false, Some, Ok, Err, is_some, IfOk, IfErr, IsErrOf};
-ghost use Rattle.ibc_machine.specs.ics04.Channels.{client_of};
+ghost use Rattle.std.specs.Prelude.{◌≡◌, ◌⊎◌, ◌-◌, ◌^◌, ◌<◌, false, Some, is_some, IfOk, IfErr, IsErrOf};
 ghost use Rattle.ibc_machine.specs.ics24.Evidence.{require_known, require_number};
-ghost use Rattle.ibc_machine.specs.chain.Records as plain;
 ghost use Rattle.ibc_wire.specs.Reading.{proof_of};
 ghost use Rattle.ibc_records.specs.RecordsModel.{core_of};
 ghost use Rattle.ibc_records.specs.ProofVerdicts.{require_client};
+ghost use Rattle.ibc_records.specs.OwnEnds.{IsConnectionAt, KnowsHeight, PassesKnown, FailsKnown};
 
 use crate::{Records, knows};
 use ibc_ids::{ClientId, ConnectionId, Refusal};
@@ -52,10 +51,10 @@ pub fn known_connection<'a>(
     connection: &ConnectionId,
     height: u64,
 ) -> Result<&'a ConnectionEnd, Refusal>
-    ensures there { IfOk result (λ end. plain.connection_at (core_of records.now) connection.now ≡ Some end.now) }
-    ensures known { IfOk result (λ end. plain.is_known_height (core_of records.now) end.now.client height ≡ true) }
-    ensures passed { IfOk result (λ _. require_known (core_of records.now) (client_of (core_of records.now) connection.now) height ≡ Ok tt) }
-    ensures failed { IfErr result (λ refusal. require_known (core_of records.now) (client_of (core_of records.now) connection.now) height ≡ Err refusal) }
+    ensures there { IfOk result (λ end. IsConnectionAt records.now connection.now end.now) }
+    ensures known { IfOk result (λ end. KnowsHeight records.now end.now.client height) }
+    ensures passed { PassesKnown records.now connection.now height result }
+    ensures failed { FailsKnown records.now connection.now height result }
 {
     records.lemma_names_have_form();
     let Some(end) = records.connection(connection) else {

@@ -1,10 +1,11 @@
 //! The form of packets, and the proofs that come with them.
 
-ghost use Rattle.std.specs.Prelude.{◌≡◌, ◌⊎◌, ◌&&◌, ◌-◌, ◌^◌, ◌<◌, true, Some, Err, is_some, IfOk, IfErr};
-ghost use Rattle.ibc_ids.specs.declared.refusal.Refusal.TheVariants.{BadMessage, NoMemory};
+ghost use Rattle.std.specs.Prelude.{◌≡◌, ◌&&◌, ◌-◌, ◌^◌, ◌<◌, true, Some, is_some, IfOk};
+ghost use Rattle.ibc_ids.specs.declared.refusal.Refusal.TheVariants.{BadMessage};
 ghost use Rattle.ibc_wire.specs.Reading.{proof_of};
 ghost use Rattle.ibc_machine.specs.chain.Checks.{require};
 ghost use Rattle.ibc_machine.specs.ics04.Packets as plain;
+ghost use Rattle.ibc_records.specs.WhyRefused.{FailsBy};
 
 use crate::read_proof;
 use ibc_ids::Refusal;
@@ -36,7 +37,7 @@ pub fn has_form(packet: &Packet) -> bool
 pub fn proof_in_form(alloc: Global, has_form: bool, bytes: &[u8]) -> Result<Proof, Refusal>
     ensures form { IfOk result (λ _. has_form ≡ true) }
     ensures ok { IfOk result (λ proof. proof_of bytes.now ≡ Some proof) }
-    ensures err { IfErr result (λ refusal. (require (has_form && is_some (proof_of bytes.now)) BadMessage ≡ Err refusal) ⊎ (refusal ≡ NoMemory)) }
+    ensures err { FailsBy (require (has_form && is_some (proof_of bytes.now)) BadMessage) result }
 {
     if !has_form {
         return Err(Refusal::BadMessage);

@@ -1,12 +1,9 @@
 //! What a client is told of the chain that it tracks.
 
-ghost use Rattle.std.specs.Prelude.{◌≡◌, ◌<◌, true};
-ghost use mathlib.Core.List.{IsPrefix};
-ghost use Rattle.ibc_ids.specs.Publications.{height_of};
+ghost use Rattle.std.specs.Prelude.{◌≡◌, ◌<◌};
 ghost use Rattle.ibc_machine.specs.ics24.Evidence.{require_row};
-ghost use Rattle.ibc_machine.specs.ledger.Ledgers.{IsReadBetween, reading_fits};
-ghost use Rattle.ibc_root_table.specs.Passes.{SamePass, KeepsOwn};
-ghost use Rattle.ibc_records.specs.HeaderChecks.{require_published, row_found};
+ghost use Rattle.ibc_machine.specs.ledger.Ledgers.{IsReadBetween};
+ghost use Rattle.ibc_records.specs.HeaderChecks.{require_published, row_found, SeesOn, FitsHeader};
 
 use ibc_ids::{Refusal, Root};
 use ibc_machine::Reading;
@@ -20,8 +17,8 @@ use ibc_wire::Header;
 pub fn look(table: &RootTable, pass: &mut Pass, header: &Header) -> (Reading, Result<(), Refusal>)
     requires table { pass.old.table ≡ table.now }
     requires height { 0 < header.now.height }
-    ensures pass { SamePass pass.old pass.new × IsPrefix pass.old.seen pass.new.seen × KeepsOwn pass.old pass.new }
-    ensures fits { reading_fits table.now.shape.window (height_of header.now.chain pass.new.seen) header.now.height result.0 ≡ true }
+    ensures pass { SeesOn pass.old pass.new }
+    ensures fits { FitsHeader table.now.shape.window pass.new.seen header.now result.0 }
     ensures read { IsReadBetween pass.old.seen pass.new.seen header.now.chain result.0.published }
     ensures checked { result.1 ≡ require_published pass.new.seen result.0 header.now }
 {

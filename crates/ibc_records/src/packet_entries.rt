@@ -1,12 +1,9 @@
 //! What stands at a channel's paths once a packet is received, acknowledged or timed out, beside the packet's own records.
 
-ghost use Rattle.std.specs.Prelude.{◌≡◌, ◌-◌, ◌^◌, ◌<◌, true, IfOk, option_map, string_bytes, IsOkUnless};
-ghost use Rattle.ibc_ids.specs.Texts.{text_cmp};
-ghost use Rattle.ibc_ids.specs.Maps.{without};
+ghost use Rattle.std.specs.Prelude.{◌≡◌, ◌-◌, ◌^◌, ◌<◌, true, IfOk, IsOkUnless};
 ghost use Rattle.ibc_ids.specs.declared.refusal.Refusal.TheVariants.{NoMemory};
 ghost use Rattle.ibc_machine.specs.ics04.Packets.{is_ordered};
-ghost use Rattle.ibc_machine.specs.ics04.Parts.{part_after_receive, part_after_ack, part_after_timeout, entry_of};
-ghost use Rattle.ibc_records.specs.Entries.{with_entry};
+ghost use Rattle.ibc_records.specs.Entries.{IsReceivedEntry, IsAckedEntry, IsClosedEntry, SettlesPath};
 
 use crate::channel::Channel;
 use crate::packet_values::channel_counter;
@@ -25,7 +22,7 @@ pub fn received_entry(
     sequence: u64,
 ) -> Result<(String, Bytes), Refusal>
     requires { is_ordered channel.now ≡ true → channel.now.next_recv < 2 ^ 64 - 1 }
-    ensures ok { IfOk result (λ entry. (string_bytes entry.0, entry.1) ≡ entry_of port.now id.now (part_after_receive sequence channel.now)) }
+    ensures ok { IfOk result (λ entry. IsReceivedEntry port.now id.now sequence channel.now entry) }
     ensures err { IsOkUnless result NoMemory }
 {
     if channel.is_ordered() {
@@ -44,7 +41,7 @@ pub fn acknowledged_entry(
     channel: &Channel,
 ) -> Result<Option<(String, Bytes)>, Refusal>
     requires { is_ordered channel.now ≡ true → channel.now.next_ack < 2 ^ 64 - 1 }
-    ensures ok { IfOk result (λ found. option_map (λ entry. (string_bytes entry.0, entry.1)) found ≡ option_map (entry_of port.now id.now) (part_after_ack channel.now)) }
+    ensures ok { IfOk result (λ found. IsAckedEntry port.now id.now channel.now found) }
     ensures err { IsOkUnless result NoMemory }
 {
     if !channel.is_ordered() {
@@ -61,7 +58,7 @@ pub fn closed_entry(
     id: &ChannelId,
     channel: &Channel,
 ) -> Result<Option<(String, Bytes)>, Refusal>
-    ensures ok { IfOk result (λ found. option_map (λ entry. (string_bytes entry.0, entry.1)) found ≡ option_map (entry_of port.now id.now) (part_after_timeout channel.now)) }
+    ensures ok { IfOk result (λ found. IsClosedEntry port.now id.now channel.now found) }
     ensures err { IsOkUnless result NoMemory }
 {
     if !channel.is_ordered() {
@@ -76,7 +73,7 @@ pub fn closed_entry(
 /// Removes the path of a settled packet's commitment, and sets the other path, for which there is room.
 pub fn settle(store: &mut Store, commitment: &str, other: Option<(String, Bytes)>)
     requires { 0 < store.old.room }
-    ensures { store.new ≡ record store.old { pairs = with_entry (option_map (λ entry. (string_bytes entry.0, entry.1)) other) (without text_cmp commitment.now store.old.pairs); room = store.new.room } }
+    ensures { SettlesPath store.old commitment.now other store.new }
 {
     store.remove(commitment);
     if let Some((path, value)) = other {

@@ -42,7 +42,7 @@ pub fn channel_counter(
     id: &ChannelId,
     sequence: u64,
 ) -> Result<(String, Bytes), Refusal>
-    ensures path { IfOk result (λ entry. string_bytes entry.0 ≡ kind.now ++ path_of_channel port.now id.now) }
+    ensures path { IfOk result (λ e. string_bytes e.0 ≡ kind.now ++ path_of_channel port.now id.now) }
     ensures number { IfOk result (λ entry. entry.1 ≡ value_bytes (NumberIs sequence)) }
     ensures err { IsOkUnless result NoMemory }
 {

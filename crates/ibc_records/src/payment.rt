@@ -1,8 +1,8 @@
 //! Who pays for packets as they are sent.
 
-ghost use Rattle.std.specs.Prelude.{◌≡◌, ◌⊎◌, Ok, Err, IfErr, OnOk, OnErr};
-ghost use Rattle.ibc_ids.specs.declared.refusal.Refusal.TheVariants.{NoMemory};
+ghost use Rattle.std.specs.Prelude.{◌≡◌, Ok, OnOk, OnErr};
 ghost use Rattle.ibc_machine.specs.chain.Checks.{Checked};
+ghost use Rattle.ibc_records.specs.WhyRefused.{IsRefusedAs};
 
 use ibc_ids::Refusal;
 
@@ -14,7 +14,7 @@ pub trait Pays<Bill> {
     /// Pays a bill. What the payer refuses; `NoMemory` where a growth is refused.
     fn pay(&mut self, bill: &Bill) -> Result<(), Refusal>
         ensures ok { OnOk result (pays self.old bill.now ≡ Ok self.new) }
-        ensures err { IfErr result (λ refusal. (refusal ≡ NoMemory) ⊎ (pays self.old bill.now ≡ Err refusal)) }
+        ensures err { IsRefusedAs (pays self.old bill.now) result }
         ensures unchanged { OnErr result (self.new ≡ self.old) };
 }
 

@@ -4,9 +4,7 @@ ghost use Rattle.std.specs.Prelude.{◌≡◌, ◌++◌, string_bytes, IfOk, OnO
 ghost use Rattle.ibc_ids.specs.Paths.{path};
 ghost use Rattle.ibc_ids.specs.declared.key.Key.TheVariants as key;
 ghost use Rattle.ibc_ids.specs.declared.refusal.Refusal.TheVariants.{NoMemory};
-ghost use Rattle.ibc_merkle.specs.Proofs.{accepts_present};
-ghost use Rattle.ibc_records.specs.Claims.{proof_checked};
-ghost use Rattle.ibc_records.specs.Peers.{end_bytes, text_of};
+ghost use Rattle.ibc_records.specs.Peers.{end_bytes, text_of, ClaimsPath, ClaimsEnd, ShowsClaim};
 
 use crate::{Records, check_path, check_path_with};
 use ibc_ics23_proof::NodeMemory;
@@ -35,8 +33,8 @@ pub fn claim_peer(
     channel: &str,
     state: ChannelState,
 ) -> Result<PeerClaim, Refusal>
-    ensures path { IfOk result (λ claim. string_bytes claim.path ≡ path (key.ChannelEnd mine.now.peer_port peer.now)) }
-    ensures value { IfOk result (λ claim. claim.value ≡ end_bytes state mine.now.order port.now channel.now (text_of connection.now.peer_connection) mine.now.version) }
+    ensures path { ClaimsPath mine.now peer.now result }
+    ensures value { ClaimsEnd mine.now connection.now port.now channel.now state result }
     ensures err { IsOkUnless result NoMemory }
 {
     let over = name_or_none(&connection.peer_connection);
@@ -54,7 +52,7 @@ pub fn check_claim(
     claim: &PeerClaim,
     proof: &Proof,
 ) -> Result<(), Refusal>
-    ensures { result ≡ proof_checked records.now client.now height (λ root. accepts_present proof.now root (string_bytes claim.now.path) claim.now.value) }
+    ensures { ShowsClaim records.now client.now height claim.now proof.now result }
 {
     let path = claim.path.as_str();
     let value = claim.value.as_slice();
@@ -70,7 +68,7 @@ pub fn check_claim_with(
     claim: &PeerClaim,
     proof: &Proof,
 ) -> Result<(), Refusal>
-    ensures { result ≡ proof_checked records.now client.now height (λ root. accepts_present proof.now root (string_bytes claim.now.path) claim.now.value) }
+    ensures { ShowsClaim records.now client.now height claim.now proof.now result }
 {
     let path = claim.path.as_str();
     let value = claim.value.as_slice();

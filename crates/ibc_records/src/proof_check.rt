@@ -1,13 +1,12 @@
 //! What a client shows of the chain that it tracks.
 
-ghost use Rattle.std.specs.Prelude.{◌≡◌, ◌⊎◌, option_map};
+ghost use Rattle.std.specs.Prelude.{◌≡◌, option_map};
 ghost use Rattle.ibc_ids.specs.Paths.{path};
-ghost use Rattle.ibc_ids.specs.declared.refusal.Refusal.TheVariants.{NoMemory, BadProof};
-ghost use Rattle.ibc_merkle.specs.Proofs.{accepts_present, accepts_absent};
+ghost use Rattle.ibc_ids.specs.declared.refusal.Refusal.TheVariants.{BadProof};
 ghost use Rattle.ibc_machine.specs.chain.Checks.{require};
 ghost use Rattle.ibc_machine.specs.chain.Records as plain;
 ghost use Rattle.ibc_records.specs.RecordsModel.{core_of, consensus_in};
-ghost use Rattle.ibc_records.specs.Claims.{proof_checked, IsKnown};
+ghost use Rattle.ibc_records.specs.Claims.{IsKnown, ShowsPresent, ShowsAtPath, ShowsAbsent};
 
 use crate::{ConsensusState, Records};
 use ibc_ics23_proof::{
@@ -29,7 +28,7 @@ pub fn check_present(
     value: &[u8],
     proof: &Proof,
 ) -> Result<(), Refusal>
-    ensures { (result ≡ Err NoMemory) ⊎ (result ≡ proof_checked records.now client.now height (λ root. accepts_present proof.now root (path key.now) value.now)) }
+    ensures { ShowsPresent records.now client.now height key.now value.now proof.now result }
 {
     let path = key.path(alloc)?;
     check_path(records, client, height, path.as_str(), value, proof)
@@ -45,7 +44,7 @@ pub fn check_path(
     value: &[u8],
     proof: &Proof,
 ) -> Result<(), Refusal>
-    ensures { result ≡ proof_checked records.now client.now height (λ root. accepts_present proof.now root path.now value.now) }
+    ensures { ShowsAtPath records.now client.now height path.now value.now proof.now result }
 {
     let known = known_at(records, client, height)?;
     accept(verify_present(proof, &known.root, path.as_bytes(), value))
@@ -61,7 +60,7 @@ pub fn check_absent(
     key: &Key,
     proof: &Proof,
 ) -> Result<(), Refusal>
-    ensures { (result ≡ Err NoMemory) ⊎ (result ≡ proof_checked records.now client.now height (λ root. accepts_absent proof.now root (path key.now))) }
+    ensures { ShowsAbsent records.now client.now height key.now proof.now result }
 {
     let known = known_at(records, client, height)?;
     let path = key.path(alloc)?;
@@ -79,7 +78,7 @@ pub fn check_present_with(
     value: &[u8],
     proof: &Proof,
 ) -> Result<(), Refusal>
-    ensures { (result ≡ Err NoMemory) ⊎ (result ≡ proof_checked records.now client.now height (λ root. accepts_present proof.now root (path key.now) value.now)) }
+    ensures { ShowsPresent records.now client.now height key.now value.now proof.now result }
 {
     let path = key.path(alloc)?;
     check_path_with(records, memory, client, height, path.as_str(), value, proof)
@@ -95,7 +94,7 @@ pub fn check_path_with(
     value: &[u8],
     proof: &Proof,
 ) -> Result<(), Refusal>
-    ensures { result ≡ proof_checked records.now client.now height (λ root. accepts_present proof.now root path.now value.now) }
+    ensures { ShowsAtPath records.now client.now height path.now value.now proof.now result }
 {
     let known = known_at(records, client, height)?;
     accept(verify_present_with(memory, proof, &known.root, path.as_bytes(), value))
@@ -111,7 +110,7 @@ pub fn check_absent_with(
     key: &Key,
     proof: &Proof,
 ) -> Result<(), Refusal>
-    ensures { (result ≡ Err NoMemory) ⊎ (result ≡ proof_checked records.now client.now height (λ root. accepts_absent proof.now root (path key.now))) }
+    ensures { ShowsAbsent records.now client.now height key.now proof.now result }
 {
     let known = known_at(records, client, height)?;
     let path = key.path(alloc)?;

@@ -1,14 +1,12 @@
 //! Receiving packets.
 
-ghost use Rattle.std.specs.Prelude.{◌≡◌, ◌≤◌, ℕ, true, Some, IfOk};
+ghost use Rattle.std.specs.Prelude.{◌≡◌, true, Some, IfOk};
 ghost use Rattle.ibc_wire.specs.Reading.{proof_of};
-ghost use Rattle.ibc_machine.specs.declared.reply.Effect.TheVariants as effect;
 ghost use Rattle.ibc_machine.specs.ics04.Packets as plain;
-ghost use Rattle.ibc_machine.specs.ics04.Packets.{is_ordered, may_receive, recv_checked, recv_packet};
-ghost use Rattle.ibc_machine.specs.chain.Records.{channel_at};
-ghost use Rattle.ibc_records.specs.RecordsModel.{core_of};
-ghost use Rattle.ibc_records.specs.HandlerContract.{host_with, IsHandledWith};
-ghost use Rattle.ibc_records.specs.ProofVerdicts.{IsJudged};
+ghost use Rattle.ibc_machine.specs.ics04.Packets.{recv_checked};
+ghost use Rattle.ibc_records.specs.OwnEnds.{IsDestinationEnd, IsAwaited};
+ghost use Rattle.ibc_records.specs.PacketHandlers.{HandlesRecv, IsReceivable};
+ghost use Rattle.ibc_records.specs.ProofVerdicts.{IsJudgedEnd};
 
 use crate::claims::check_sent;
 use crate::ends::{find_channel, has_peer, is_open, is_repeat, known_over, waits_before};
@@ -34,7 +32,7 @@ pub fn recv<A: App>(
     app: &mut A,
     message: &RecvPacket,
 ) -> Result<(Bytes, Bytes), Refusal>
-    ensures answer { (chain chains : ℕ) → IsHandledWith (λ acks. effect.Ack acks.0) (recv_packet A.receives message.now) chain chains records.old app.old result records.new app.new }
+    ensures answer { HandlesRecv A.receives message.now records.old app.old result records.new app.new }
     ensures copy { IfOk result (λ acks. acks.1 ≡ acks.0) }
 {
     let mut memory = records.take_memory();
@@ -51,7 +49,7 @@ fn recv_with<A: App>(
     app: &mut A,
     message: &RecvPacket,
 ) -> Result<(Bytes, Bytes), Refusal>
-    ensures answer { (chain chains : ℕ) → IsHandledWith (λ acks. effect.Ack acks.0) (recv_packet A.receives message.now) chain chains records.old app.old result records.new app.new }
+    ensures answer { HandlesRecv A.receives message.now records.old app.old result records.new app.new }
     ensures copy { IfOk result (λ acks. acks.1 ≡ acks.0) }
 {
     let form = has_form(&message.packet);
@@ -72,9 +70,9 @@ fn judge_recv<'a>(
 ) -> Result<&'a Channel, Refusal>
     requires form { plain.has_form message.now.packet ≡ true }
     requires reads { proof_of message.now.proof ≡ Some proof.now }
-    ensures judged { (chain chains : ℕ) → IsJudged (recv_checked message.now) chain chains records.now (λ mine. mine.now) result }
-    ensures there { IfOk result (λ mine. channel_at (core_of records.now) message.now.packet.destination_port message.now.packet.destination_channel ≡ Some mine.now) }
-    ensures next { IfOk result (λ mine. is_ordered mine.now ≡ true → mine.now.next_recv ≤ message.now.packet.sequence) }
+    ensures judged { IsJudgedEnd (recv_checked message.now) records.now result }
+    ensures there { IfOk result (λ mine. IsDestinationEnd records.now message.now.packet mine.now) }
+    ensures next { IfOk result (λ mine. IsAwaited mine.now message.now.packet.sequence) }
 {
     let packet = &message.packet;
     let mine = find_channel(
@@ -91,8 +89,8 @@ fn judge_recv<'a>(
 // The end may receive the packet in the working block.
 #[tactic(auto, unfolding(ibc_machine::specs::chain::Checks::and_then))]
 fn check_receivable(records: &Records, mine: &Channel, packet: &Packet) -> Result<(), Refusal>
-    ensures checked { (chain chains : ℕ) → result ≡ may_receive (host_with chain chains records.now) mine.now packet.now }
-    ensures next { IfOk result (λ _. is_ordered mine.now ≡ true → mine.now.next_recv ≤ packet.now.sequence) }
+    ensures checked { IsReceivable records.now mine.now packet.now result }
+    ensures next { IfOk result (λ _. IsAwaited mine.now packet.now.sequence) }
 {
     if !is_open(mine) {
         return Err(Refusal::WrongState);

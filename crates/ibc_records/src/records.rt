@@ -1,18 +1,17 @@
 //! The records of a chain, kept in plain and as a store.
 
-ghost use Rattle.std.specs.Prelude.{◌≡◌, ◌⊎◌, ◌↔◌, ◌+◌, ◌-◌, ◌^◌, ◌<◌, length, min, IsNone, IsSome, IfSome, IfOk, IfErr, OnOk, OnErr, option_map, option_copied, IsOkUnless};
+ghost use Rattle.std.specs.Prelude.{◌≡◌, ◌⊎◌, ◌↔◌, ◌+◌, ◌-◌, ◌^◌, ◌<◌, length, min, IsNone, IsSome, IfOk, IfErr, OnOk, OnErr, option_map, option_copied, IsOkUnless};
 ghost use Rattle.ibc_ids.specs.Texts.{text_cmp};
-ghost use Rattle.ibc_ids.specs.Maps.{at, with};
+ghost use Rattle.ibc_ids.specs.Maps.{at};
 ghost use Rattle.ibc_ids.specs.Paths.{path};
-ghost use Rattle.std.specs.Option.{IsSomeAnd};
 ghost use Rattle.ibc_ids.specs.declared.refusal.Refusal.TheVariants.{NoConsensus, NoMemory, TimeBack, UnknownClient};
-ghost use Rattle.ibc_merkle.specs.Written.{written_proof};
-ghost use Rattle.ibc_records.specs.RecordsModel.{core_of, after_commit, IsNew, IsCountingFrom, AddsClient, UpdatesClient, IsUnchanged};
+ghost use Rattle.ibc_records.specs.RecordsModel.{core_of, after_commit, IsNew, IsCountingFrom, AddsClient, UpdatesClient, IsUnchanged, next_numbers_of};
 ghost use Rattle.ibc_machine.specs.chain.Genesis.{empty_core};
 ghost use Rattle.ibc_machine.specs.ics24.Image.{image, core_root, IsKeyed};
 ghost use Rattle.ibc_machine.specs.chain.Orderly.{IsOrderly};
-ghost use Rattle.ibc_records.specs.ClientModels.{with_height};
 ghost use Rattle.ibc_path_store.specs.StoreModel.{height_of, kept_at};
+ghost use Rattle.ibc_records.specs.ClientModels.{LearnsHeight};
+ghost use Rattle.ibc_records.specs.CommittedHeights.{IsCommittedTree, IsCommittedProof};
 
 mod channels;
 mod connections;
@@ -256,7 +255,7 @@ impl Records {
     /// "CommitmentState"). `NoConsensus` exactly where the height isn't committed or is gone from the window; `NoMemory`
     /// where too many share it.
     pub fn snapshot(&self, height: u64) -> Result<CommittedTree, Refusal>
-        ensures ok { IfOk result (λ tree. IsSomeAnd (kept_at self.now.store height) (λ kept. tree ≡ kept.0)) }
+        ensures ok { IfOk result (λ tree. IsCommittedTree self.now.store height tree) }
         ensures unknown { (result ≡ Err NoConsensus) ↔ IsNone (kept_at self.now.store height) }
         ensures err { IfErr result (λ refusal. (refusal ≡ NoConsensus) ⊎ (refusal ≡ NoMemory)) }
     {
@@ -286,7 +285,7 @@ impl Records {
 
     // The numbers of the next client, connection and channel.
     fn next_numbers(&self) -> NextNumbers
-        ensures { result ≡ record { client = self.now.next_client; connection = self.now.next_connection; channel = self.now.next_channel } }
+        ensures { result ≡ next_numbers_of self.now }
     {
         NextNumbers {
             client: self.next_client,
@@ -299,7 +298,7 @@ impl Records {
     /// not (ICS 23, "CommitmentProof"). `NoConsensus` exactly where the height isn't committed or is gone from the window;
     /// `NoMemory` where a growth is refused.
     pub fn prove(&self, height: u64, key: &Key) -> Result<Proof, Refusal>
-        ensures ok { IfOk result (λ proof. IsSomeAnd (kept_at self.now.store height) (λ kept. proof ≡ written_proof kept.0 (path key.now))) }
+        ensures ok { IfOk result (λ proof. IsCommittedProof self.now.store height key.now proof) }
         ensures unknown { (result ≡ Err NoConsensus) ↔ IsNone (kept_at self.now.store height) }
         ensures err { IfErr result (λ refusal. (refusal ≡ NoConsensus) ⊎ (refusal ≡ NoMemory)) }
     {
@@ -336,7 +335,7 @@ fn learn(
     height: u64,
     known: ConsensusState,
 ) -> Result<(), Refusal>
-    ensures ok { OnOk result (IfSome (at text_cmp id.now clients.old.pairs) (λ client. clients.new.pairs ≡ with text_cmp id.now (with_height height known client) clients.old.pairs)) }
+    ensures ok { OnOk result (LearnsHeight id.now height known clients.old.pairs clients.new.pairs) }
     ensures unknown { IsNone (at text_cmp id.now clients.old.pairs) → result ≡ Err UnknownClient }
     ensures known { IsSome (at text_cmp id.now clients.old.pairs) → IsOkUnless result NoMemory }
     ensures unchanged { OnErr result (clients.new.pairs ≡ clients.old.pairs) }

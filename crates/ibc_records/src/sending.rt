@@ -1,12 +1,8 @@
 //! Sending packets: the checks, between which an application has its own.
 
-ghost use Rattle.std.specs.Prelude.{◌≡◌, ◌&&◌, ◌==◌, Some, IfOk};
-ghost use Rattle.ibc_ids.specs.Texts.{Text};
-ghost use Rattle.ibc_machine.specs.ics04.Packets as plain;
-ghost use Rattle.ibc_machine.specs.chain.Records.{channel_at, is_known_height};
-ghost use Rattle.ibc_records.specs.RecordsModel.{core_of};
-ghost use Rattle.ibc_records.specs.ProofVerdicts.{IsEvident, IsPassed};
-ghost use Rattle.ibc_records.specs.TimeoutChecks.{is_timeout_reached, with_timeouts};
+ghost use Rattle.std.specs.Prelude.{◌≡◌, ◌&&◌, ◌==◌, IfOk};
+ghost use Rattle.ibc_records.specs.OwnEnds.{IsEndAt};
+ghost use Rattle.ibc_records.specs.Sending.{IsSendingEnd, AreJudgedTimeouts, IsReachedTimeout, IsReachedLimit};
 
 use crate::ends::{find_channel, is_open};
 use crate::times::is_reached;
@@ -20,8 +16,8 @@ pub fn sending_end<'a>(
     port: &PortId,
     channel: &ChannelId,
 ) -> Result<&'a Channel, Refusal>
-    ensures passed { IsPassed (plain.sending_end (core_of records.now) port.now channel.now) (λ mine. mine.now) result }
-    ensures there { IfOk result (λ mine. channel_at (core_of records.now) port.now channel.now ≡ Some mine.now) }
+    ensures passed { IsSendingEnd records.now port.now channel.now result }
+    ensures there { IfOk result (λ mine. IsEndAt records.now port.now channel.now mine.now) }
 {
     let mine = find_channel(records, port, channel)?;
     if !is_open(mine) {
@@ -39,7 +35,7 @@ pub fn check_timeouts(
     timeout_height: u64,
     timeout_time: u64,
 ) -> Result<(), Refusal>
-    ensures { (payload : Text) → IsEvident records.now (λ evidence. plain.require_timeouts evidence (core_of records.now) mine.now (with_timeouts payload timeout_height timeout_time)) result }
+    ensures { AreJudgedTimeouts records.now mine.now timeout_height timeout_time result }
 {
     if has_no_timeout(timeout_height, timeout_time) {
         return Err(Refusal::NoTimeout);
@@ -59,7 +55,7 @@ fn has_no_timeout(timeout_height: u64, timeout_time: u64) -> bool
 
 // Whether a timeout is reached at the latest height that the end's client knows.
 fn has_passed(records: &Records, mine: &Channel, timeout_height: u64, timeout_time: u64) -> bool
-    ensures { (payload : Text) → IsEvident records.now (is_timeout_reached (core_of records.now) mine.now (with_timeouts payload timeout_height timeout_time)) result }
+    ensures { IsReachedTimeout records.now mine.now timeout_height timeout_time result }
 {
     records.lemma_names_have_form();
     let Some(connection) = records.connection(&mine.end().connection) else {
@@ -75,7 +71,7 @@ fn has_passed(records: &Records, mine: &Channel, timeout_height: u64, timeout_ti
 
 // Whether a client knows a height, whose time has reached a limit.
 fn is_reached_at(records: &Records, client: &ClientId, height: u64, limit: u64) -> bool
-    ensures { IsEvident records.now (λ evidence. is_known_height (core_of records.now) client.now height && plain.is_reached limit (evidence.time_at client.now height)) result }
+    ensures { IsReachedLimit records.now client.now height limit result }
 {
     match known_time(records, client, height) {
         Some(time) => is_reached(limit, time),

@@ -4,6 +4,7 @@ ghost use Rattle.std.specs.Prelude.{◌≡◌, ◌+◌, ◌-◌, ◌^◌, min};
 ghost use Rattle.ibc_machine.specs.ics04.Packets as plain;
 ghost use Rattle.ibc_machine.specs.chain.Records.{commitment_of};
 ghost use Rattle.ibc_path_store.specs.StoreModel.{height_of};
+ghost use Rattle.ibc_records.specs.TimeoutChecks.{is_too_late};
 
 use crate::Records;
 use ibc_wire::Packet;
@@ -24,7 +25,7 @@ pub fn is_timed_out(packet: &Packet, height: u64, time: u64) -> bool
 
 /// Whether one of a packet's timeouts is reached in the working block.
 pub fn is_late(records: &Records, packet: &Packet) -> bool
-    ensures { result ≡ plain.is_timed_out (commitment_of packet.now) (height_of records.now.store + 1) records.now.store.time }
+    ensures { result ≡ is_too_late records.now packet.now }
 {
     is_reached(packet.timeout_height, working_height(records))
         || is_reached(packet.timeout_time, records.time())

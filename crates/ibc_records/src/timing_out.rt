@@ -1,17 +1,15 @@
 //! Timeouts.
 
-ghost use Rattle.std.specs.Prelude.{◌≡◌, ℕ, true, Some, IfOk};
+ghost use Rattle.std.specs.Prelude.{◌≡◌, true, Some, IfOk};
 ghost use Rattle.ibc_ids.specs.declared.refusal.Refusal.TheVariants.{NotTimedOut};
 ghost use Rattle.ibc_wire.specs.Reading.{proof_of};
-ghost use Rattle.ibc_machine.specs.declared.reply.Effect.TheVariants as effect;
 ghost use Rattle.ibc_machine.specs.chain.Checks.{require};
 ghost use Rattle.ibc_machine.specs.ics04.Packets as plain;
 ghost use Rattle.ibc_machine.specs.ics04.Packets.{timeout_checked, waits_for};
-ghost use Rattle.ibc_machine.specs.chain.Records.{channel_at, is_known_height};
-ghost use Rattle.ibc_records.specs.RecordsModel.{core_of};
-ghost use Rattle.ibc_records.specs.HandlerContract.{IsHandledWith};
-ghost use Rattle.ibc_records.specs.ProofVerdicts.{IsEvident, IsJudged};
+ghost use Rattle.ibc_records.specs.ProofVerdicts.{IsEvident, IsJudgedEnd};
 ghost use Rattle.ibc_records.specs.TimeoutChecks.{require_timed_out};
+ghost use Rattle.ibc_records.specs.OwnEnds.{IsSourceEnd, KnowsHeight};
+ghost use Rattle.ibc_records.specs.PacketHandlers.{HandlesTimeout};
 
 use crate::claims::check_not_received;
 use crate::ends::{check_pending, find_channel, known_over};
@@ -38,7 +36,7 @@ pub fn timeout<A: App>(
     app: &mut A,
     message: &Timeout,
 ) -> Result<(), Refusal>
-    ensures { (chain chains : ℕ) → IsHandledWith (λ _. effect.None) (plain.timeout A.times_out message.now) chain chains records.old app.old result records.new app.new }
+    ensures { HandlesTimeout A.times_out message.now records.old app.old result records.new app.new }
 {
     let mut memory = records.take_memory();
     let answer = timeout_with(alloc, records, &mut memory, app, message);
@@ -54,7 +52,7 @@ fn timeout_with<A: App>(
     app: &mut A,
     message: &Timeout,
 ) -> Result<(), Refusal>
-    ensures { (chain chains : ℕ) → IsHandledWith (λ _. effect.None) (plain.timeout A.times_out message.now) chain chains records.old app.old result records.new app.new }
+    ensures { HandlesTimeout A.times_out message.now records.old app.old result records.new app.new }
 {
     let form = has_form(&message.packet);
     let proof = proof_in_form(alloc, form, message.proof.as_slice())?;
@@ -74,8 +72,8 @@ fn judge_timeout<'a>(
 ) -> Result<&'a Channel, Refusal>
     requires form { plain.has_form message.now.packet ≡ true }
     requires reads { proof_of message.now.proof ≡ Some proof.now }
-    ensures judged { (chain chains : ℕ) → IsJudged (timeout_checked message.now) chain chains records.now (λ mine. mine.now) result }
-    ensures there { IfOk result (λ mine. channel_at (core_of records.now) message.now.packet.source_port message.now.packet.source_channel ≡ Some mine.now) }
+    ensures judged { IsJudgedEnd (timeout_checked message.now) records.now result }
+    ensures there { IfOk result (λ mine. IsSourceEnd records.now message.now.packet mine.now) }
 {
     let packet = &message.packet;
     let height = message.height;
@@ -99,7 +97,7 @@ fn check_timed_out(
     height: u64,
     packet: &Packet,
 ) -> Result<(), Refusal>
-    requires { is_known_height (core_of records.now) client.now height ≡ true }
+    requires { KnowsHeight records.now client.now height }
     ensures { IsEvident records.now (require_timed_out client.now height packet.now) result }
 {
     match known_time(records, client, height) {

@@ -1,14 +1,12 @@
 //! Timeouts of packets to an end that is closed.
 
-ghost use Rattle.std.specs.Prelude.{◌≡◌, ℕ, true, Some, IfOk};
+ghost use Rattle.std.specs.Prelude.{◌≡◌, true, Some, IfOk};
 ghost use Rattle.ibc_wire.specs.Reading.{proof_of};
-ghost use Rattle.ibc_machine.specs.declared.reply.Effect.TheVariants as effect;
 ghost use Rattle.ibc_machine.specs.ics04.Packets as plain;
 ghost use Rattle.ibc_machine.specs.ics04.Packets.{timeout_on_close_checked};
-ghost use Rattle.ibc_machine.specs.chain.Records.{channel_at};
-ghost use Rattle.ibc_records.specs.RecordsModel.{core_of};
-ghost use Rattle.ibc_records.specs.HandlerContract.{IsHandledWith};
-ghost use Rattle.ibc_records.specs.ProofVerdicts.{IsJudged};
+ghost use Rattle.ibc_records.specs.OwnEnds.{IsSourceEnd};
+ghost use Rattle.ibc_records.specs.PacketHandlers.{HandlesOnClose};
+ghost use Rattle.ibc_records.specs.ProofVerdicts.{IsJudgedEnd};
 
 use crate::claims::{check_closed, check_not_received};
 use crate::ends::{check_pending, find_channel, known_over};
@@ -35,7 +33,7 @@ pub fn timeout_on_close<A: App>(
     app: &mut A,
     message: &TimeoutOnClose,
 ) -> Result<(), Refusal>
-    ensures { (chain chains : ℕ) → IsHandledWith (λ _. effect.None) (plain.timeout_on_close A.times_out message.now) chain chains records.old app.old result records.new app.new }
+    ensures { HandlesOnClose A.times_out message.now records.old app.old result records.new app.new }
 {
     let mut memory = records.take_memory();
     let answer = timeout_on_close_with(alloc, records, &mut memory, app, message);
@@ -51,7 +49,7 @@ fn timeout_on_close_with<A: App>(
     app: &mut A,
     message: &TimeoutOnClose,
 ) -> Result<(), Refusal>
-    ensures { (chain chains : ℕ) → IsHandledWith (λ _. effect.None) (plain.timeout_on_close A.times_out message.now) chain chains records.old app.old result records.new app.new }
+    ensures { HandlesOnClose A.times_out message.now records.old app.old result records.new app.new }
 {
     judge(alloc, records, memory, message)?;
     records.time_out(app, &message.packet)
@@ -64,8 +62,8 @@ fn judge<'a>(
     memory: &mut NodeMemory,
     message: &TimeoutOnClose,
 ) -> Result<&'a Channel, Refusal>
-    ensures judged { (chain chains : ℕ) → IsJudged (timeout_on_close_checked message.now) chain chains records.now (λ mine. mine.now) result }
-    ensures there { IfOk result (λ mine. channel_at (core_of records.now) message.now.packet.source_port message.now.packet.source_channel ≡ Some mine.now) }
+    ensures judged { IsJudgedEnd (timeout_on_close_checked message.now) records.now result }
+    ensures there { IfOk result (λ mine. IsSourceEnd records.now message.now.packet mine.now) }
 {
     let form = has_form(&message.packet);
     let proof = proof_in_form(alloc, form, message.proof.as_slice())?;
@@ -94,8 +92,8 @@ fn judge_closed<'a>(
     requires form { plain.has_form message.now.packet ≡ true }
     requires reads { proof_of message.now.proof ≡ Some proof.now }
     requires reads_close { proof_of message.now.proof_close ≡ Some proof_close.now }
-    ensures judged { (chain chains : ℕ) → IsJudged (timeout_on_close_checked message.now) chain chains records.now (λ mine. mine.now) result }
-    ensures there { IfOk result (λ mine. channel_at (core_of records.now) message.now.packet.source_port message.now.packet.source_channel ≡ Some mine.now) }
+    ensures judged { IsJudgedEnd (timeout_on_close_checked message.now) records.now result }
+    ensures there { IfOk result (λ mine. IsSourceEnd records.now message.now.packet mine.now) }
 {
     let packet = &message.packet;
     let height = message.height;

@@ -1,18 +1,11 @@
 //! Telling clients of heights.
 
-ghost use Rattle.std.specs.Prelude.{◌≡◌, true, is_some, IsNone, IsSome, IfSome};
-ghost use mathlib.Core.List.{IsPrefix};
+ghost use Rattle.std.specs.Prelude.{◌≡◌, is_some, IsNone, IsSome};
 ghost use Rattle.ibc_ids.specs.Texts.{text_cmp};
 ghost use Rattle.ibc_ids.specs.Maps.{at};
-ghost use Rattle.ibc_ids.specs.Publications.{height_of};
-ghost use Rattle.ibc_machine.specs.ics02.Clients.{update_client};
-ghost use Rattle.ibc_machine.specs.ics24.Evidence.{Host};
-ghost use Rattle.ibc_machine.specs.ledger.Ledgers.{IsReadBetween, reading_fits};
-ghost use Rattle.ibc_machine.specs.ledger.Replay.{LedgerState, proof_evidence};
-ghost use Rattle.ibc_root_table.specs.Passes.{SamePass, KeepsOwn};
 ghost use Rattle.ibc_records.specs.RecordsModel.{core_of};
-ghost use Rattle.ibc_records.specs.ClientReplies.{IsLearned, IsUpdated};
-ghost use Rattle.ibc_records.specs.HeaderChecks.{require_tracked, is_reading_update};
+ghost use Rattle.ibc_records.specs.ClientReplies.{IsLearned, AnswersUpdate};
+ghost use Rattle.ibc_records.specs.HeaderChecks.{require_tracked, is_reading_update, FitsIfRead, IsReadDuring, SeesOn};
 
 use crate::header_check::look;
 use crate::{ConsensusState, Records};
@@ -41,11 +34,11 @@ pub fn update(
     message: &UpdateClient,
 ) -> Updated
     requires table { pass.old.table ≡ table.now }
-    ensures answer { (host : Host) (state : LedgerState) → IsUpdated (update_client message.now (proof_evidence pass.new.seen result.reading state) host (core_of records.old)) message.now records.old result.result records.new }
+    ensures answer { AnswersUpdate pass.new.seen message.now records.old result records.new }
     ensures looks { is_some result.reading ≡ is_reading_update (core_of records.old) message.now }
-    ensures fits { IfSome result.reading (λ reading. reading_fits table.now.shape.window (height_of message.now.header.chain pass.new.seen) message.now.header.height reading ≡ true) }
-    ensures read { IfSome result.reading (λ reading. IsReadBetween pass.old.seen pass.new.seen message.now.header.chain reading.published) }
-    ensures pass { SamePass pass.old pass.new × IsPrefix pass.old.seen pass.new.seen × KeepsOwn pass.old pass.new }
+    ensures fits { FitsIfRead table.now.shape.window pass.new.seen message.now.header result.reading }
+    ensures read { IsReadDuring pass.old.seen pass.new.seen message.now.header.chain result.reading }
+    ensures pass { SeesOn pass.old pass.new }
     ensures unread { IsNone result.reading → pass.new ≡ pass.old }
 {
     if let Err(refusal) = check_tracked(records, message) {

@@ -1,11 +1,10 @@
 //! Paths and values as they stand in the store.
 
 ghost use Rattle.std.specs.Prelude.{◌≡◌, ◌<◌, ◌≤◌, ◌+◌, ◌++◌, IfOk, OnOk, string_bytes, IsOkUnless};
-ghost use Rattle.ibc_ids.specs.Texts.{text_cmp};
-ghost use Rattle.ibc_ids.specs.Maps.{with};
 ghost use Rattle.ibc_ids.specs.Paths.{path};
 ghost use Rattle.ibc_ids.specs.declared.refusal.Refusal.TheVariants.{NoMemory};
 ghost use Rattle.ibc_wire.specs.Spelling.{connection_end_bytes, channel_end_bytes};
+ghost use Rattle.ibc_path_store.specs.StoreChanges.{SetsPath};
 ghost use Rattle.ibc_machine.specs.ics24.Values.{value_bytes, NumberIs, ClientIs, ConnectionIs, ChannelIs};
 
 use ibc_ids::{Bytes, Key, Refusal};
@@ -19,7 +18,7 @@ use std::alloc::Global;
 /// Sets the value of a path, for which there is room.
 pub fn set_reserved(store: &mut Store, path: String, value: Bytes)
     requires { 0 < store.old.room }
-    ensures set { store.new ≡ record store.old { pairs = with text_cmp (string_bytes path) value store.old.pairs; room = store.new.room } }
+    ensures set { SetsPath path value store.old store.new }
     ensures room { store.old.room ≤ store.new.room + 1 }
 {
     let _ = store.set(path, value);

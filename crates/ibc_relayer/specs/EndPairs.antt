@@ -2,7 +2,7 @@
 use Rattle.std.specs.Prelude.{◌≡◌, ◌==◌, ℕ, Bool, true, false, [], Option, Some, None}
 use Rattle.std.specs.Option.{option_map_or}
 use Rattle.ibc_ids.specs.Texts.{Text}
-use Rattle.ibc_machine.specs.chain.Records.{Channel, Client}
+use Rattle.ibc_machine.specs.chain.Records.{Channel, Client, channel_at}
 use Rattle.ibc_machine.specs.ics04.Channels.{client_of}
 use Rattle.ibc_machine.specs.ics18.Relay.{View, tracks, theirs_of, pending_at}
 use Rattle.ibc_relayer.specs.declared.ends.Ends.{Ends}
@@ -22,6 +22,14 @@ pub record IsEndPair (a b : View) (port channel : Text) (mine : Channel) (ends :
   pub client_is : client_of b.core mine.end.connection ≡ ends.client.now
   pub tracked : tracks a b mine ≡ true
   pub theirs_is : theirs_of a (port, channel) mine ≡ Some ends.theirs.now
+
+-- the end stands at b with its peer at a, and its client tracks the chain of a
+abbrev pub IsPaired : Ends → Type 0
+IsPaired ends = IsEndPair ends.a.now ends.b.now ends.port.now ends.channel.now ends.mine.now ends
+
+-- the end stands on its chain under its port and its name
+abbrev pub StandsInView : Ends → Type 0
+StandsInView ends = channel_at ends.b.now.core ends.port.now ends.channel.now ≡ Some ends.mine.now
 
 abbrev pub IsFoundEndPair : View → View → Text → Text → Channel → Option Ends → Type 0
 IsFoundEndPair a b port channel mine (Some ends) = IsEndPair a b port channel mine ends

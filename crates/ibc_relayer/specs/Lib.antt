@@ -1,4 +1,5 @@
 pub mod EndPackets
 pub mod EndPairs
 pub mod UsedClients
+pub mod PlannedEnds
 pub mod Senders

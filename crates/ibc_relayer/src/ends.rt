@@ -3,13 +3,14 @@
 ghost use Rattle.std.specs.Prelude.{◌≡◌, ◌<◌, ◌++◌, [], Some, is_some, option_copied, IsTrue, IfSome, IfOk, OnOk, IsOkUnless};
 ghost use Rattle.std.specs.FinMap.{is_sorted};
 ghost use Rattle.std.specs.Ordering.{nat_cmp};
-ghost use Rattle.std.specs.List.{filter_map, cons_option};
+ghost use Rattle.std.specs.List.{cons_option};
 ghost use Rattle.ibc_ids.specs.declared.refusal.Refusal.TheVariants.{NoMemory};
 ghost use Rattle.ibc_machine.specs.ics04.Channels.{client_of};
 ghost use Rattle.ibc_machine.specs.chain.Records.{client_at, connection_at};
 ghost use Rattle.ibc_machine.specs.ics18.Relay as relay;
-ghost use Rattle.ibc_relayer.specs.EndPackets.{IsClosedProof, receive_message_at, ack_message_at, timeout_message_at, end_messages};
+ghost use Rattle.ibc_relayer.specs.EndPackets.{IsClosedProof};
 ghost use Rattle.ibc_relayer.specs.EndPairs.{IsFoundEndPair, tracks_chain};
+ghost use Rattle.ibc_relayer.specs.PlannedEnds.{messages_for, receive_messages, ack_messages, timeout_messages};
 
 use crate::due::has_peer;
 use ibc_ids::{Bytes, ChannelId, ClientId, PortId, Refusal};
@@ -53,7 +54,7 @@ impl<'v> Ends<'v> {
     pub fn plan(&self, alloc: Global, messages: &mut Vec<Message>) -> Result<(), Refusal>
         requires height { 0 < self.now.a.now.height }
         requires peer { self.now.mine.now.end.peer_channel ≡ Some self.now.peer.now }
-        ensures ok { OnOk result (messages.new.items ≡ messages.old.items ++ end_messages self.now.a.now self.now.b.now (self.now.port.now, self.now.channel.now) self.now.mine.now self.now.theirs.now) }
+        ensures ok { OnOk result (messages.new.items ≡ messages.old.items ++ messages_for self.now) }
         ensures err { IsOkUnless result NoMemory }
     {
         match self.mine.end().state {
@@ -71,7 +72,7 @@ impl<'v> Ends<'v> {
     fn receive_all(&self, alloc: Global, messages: &mut Vec<Message>) -> Result<(), Refusal>
         requires height { 0 < self.now.a.now.height }
         requires peer { self.now.mine.now.end.peer_channel ≡ Some self.now.peer.now }
-        ensures ok { OnOk result (messages.new.items ≡ messages.old.items ++ filter_map (receive_message_at self.now.a.now self.now.b.now (self.now.port.now, self.now.channel.now) self.now.mine.now) self.now.theirs.now.commitments) }
+        ensures ok { OnOk result (messages.new.items ≡ messages.old.items ++ receive_messages self.now) }
         ensures err { IsOkUnless result NoMemory }
     {
         for (sequence, commitment) in self.theirs.commitments() {
@@ -84,7 +85,7 @@ impl<'v> Ends<'v> {
     fn acknowledge_all(&self, alloc: Global, messages: &mut Vec<Message>) -> Result<(), Refusal>
         requires height { 0 < self.now.a.now.height }
         requires peer { self.now.mine.now.end.peer_channel ≡ Some self.now.peer.now }
-        ensures ok { OnOk result (messages.new.items ≡ messages.old.items ++ filter_map (ack_message_at self.now.a.now (self.now.port.now, self.now.channel.now) self.now.mine.now self.now.theirs.now) self.now.mine.now.commitments) }
+        ensures ok { OnOk result (messages.new.items ≡ messages.old.items ++ ack_messages self.now) }
         ensures err { IsOkUnless result NoMemory }
     {
         for (sequence, commitment) in self.mine.commitments() {
@@ -97,7 +98,7 @@ impl<'v> Ends<'v> {
     fn time_out_all(&self, alloc: Global, messages: &mut Vec<Message>) -> Result<(), Refusal>
         requires height { 0 < self.now.a.now.height }
         requires peer { self.now.mine.now.end.peer_channel ≡ Some self.now.peer.now }
-        ensures ok { OnOk result (messages.new.items ≡ messages.old.items ++ filter_map (timeout_message_at self.now.a.now (self.now.port.now, self.now.channel.now) self.now.mine.now self.now.theirs.now) self.now.mine.now.commitments) }
+        ensures ok { OnOk result (messages.new.items ≡ messages.old.items ++ timeout_messages self.now) }
         ensures err { IsOkUnless result NoMemory }
     {
         let mut closed = None;
@@ -116,7 +117,7 @@ impl<'v> Ends<'v> {
         requires height { 0 < self.now.a.now.height }
         requires peer { self.now.mine.now.end.peer_channel ≡ Some self.now.peer.now }
         requires closed { IsClosedProof self.now.a.now self.now.mine.now closed.old }
-        ensures ok { OnOk result (messages.new.items ≡ messages.old.items ++ filter_map (timeout_message_at self.now.a.now (self.now.port.now, self.now.channel.now) self.now.mine.now self.now.theirs.now) self.now.mine.now.commitments) }
+        ensures ok { OnOk result (messages.new.items ≡ messages.old.items ++ timeout_messages self.now) }
         ensures err { IsOkUnless result NoMemory }
     {
         for (sequence, commitment) in self.mine.commitments() {
@@ -180,7 +181,7 @@ pub fn ends_of<'v>(
 // The client under an end of `b`, where it tracks `a`'s chain.
 fn tracking<'v>(a: &View, b: &'v View, mine: &Channel) -> Option<&'v ClientId>
     ensures tracks { is_some result ≡ relay.tracks a.now b.now mine.now }
-    ensures client { IfSome result (λ client. client_of b.now.core mine.now.end.connection ≡ client.now) }
+    ensures client { IfSome result (λ id. client_of b.now.core mine.now.end.connection ≡ id.now) }
 {
     b.lemma_names_have_form();
     let Some(connection) = connection_of(b, mine) else {

@@ -2,11 +2,9 @@
 
 ghost use Rattle.std.specs.Prelude.{◌≡◌, ◌<◌, Some, IfOk, IsOkUnless};
 ghost use Rattle.ibc_ids.specs.declared.refusal.Refusal.TheVariants.{NoMemory};
-ghost use Rattle.ibc_ids.specs.declared.key.Key.TheVariants as key;
-ghost use Rattle.ibc_machine.specs.ics04.Channels.{peer_channel_of};
-ghost use Rattle.ibc_machine.specs.ics04.Proving.{commitment_key, ack_key, destination_key, recv_message, ack_message, timeout_message, timeout_on_close_message};
-ghost use Rattle.ibc_machine.specs.ics18.Relay.{proof_at, unreceived_key, next_recv};
-ghost use Rattle.ibc_relayer.specs.EndPackets.{IsClosedProof, closed_proof, packet_between, peer_of, unreceived_at, receive_message_at, ack_message_at, timeout_message_at};
+ghost use Rattle.ibc_machine.specs.ics18.Relay.{proof_at, next_recv};
+ghost use Rattle.ibc_relayer.specs.EndPackets.{IsClosedProof, closed_proof, packet_between};
+ghost use Rattle.ibc_relayer.specs.PlannedEnds.{receive_message_for, ack_message_for, timeout_message_for, IsRecvMessage, IsAckMessage, IsTimeoutMessage, IsTimeoutOnCloseMessage, proof_of_commitment, proof_of_ack, proof_of_unreceived};
 
 use crate::due::{has_received, is_timed_out, is_to_receive};
 use crate::ends::Ends;
@@ -25,7 +23,7 @@ impl Ends<'_> {
     ) -> Result<Option<Message>, Refusal>
         requires height { 0 < self.now.a.now.height }
         requires peer { self.now.mine.now.end.peer_channel ≡ Some self.now.peer.now }
-        ensures ok { IfOk result (λ made. made ≡ receive_message_at self.now.a.now self.now.b.now (self.now.port.now, self.now.channel.now) self.now.mine.now (sequence, commitment.now)) }
+        ensures ok { IfOk result (λ made. made ≡ receive_message_for self.now sequence commitment.now) }
         ensures err { IsOkUnless result NoMemory }
     {
         if !is_to_receive(self.b, self.mine, sequence, commitment) {
@@ -44,7 +42,7 @@ impl Ends<'_> {
     ) -> Result<Option<Message>, Refusal>
         requires height { 0 < self.now.a.now.height }
         requires peer { self.now.mine.now.end.peer_channel ≡ Some self.now.peer.now }
-        ensures ok { IfOk result (λ made. made ≡ ack_message_at self.now.a.now (self.now.port.now, self.now.channel.now) self.now.mine.now self.now.theirs.now (sequence, commitment.now)) }
+        ensures ok { IfOk result (λ made. made ≡ ack_message_for self.now sequence commitment.now) }
         ensures err { IsOkUnless result NoMemory }
     {
         match self.theirs.ack(sequence) {
@@ -66,7 +64,7 @@ impl Ends<'_> {
         requires peer { self.now.mine.now.end.peer_channel ≡ Some self.now.peer.now }
         requires closed { IsClosedProof self.now.a.now self.now.mine.now closed.old }
         ensures closed { IsClosedProof self.now.a.now self.now.mine.now closed.new }
-        ensures ok { IfOk result (λ made. made ≡ timeout_message_at self.now.a.now (self.now.port.now, self.now.channel.now) self.now.mine.now self.now.theirs.now (sequence, commitment.now)) }
+        ensures ok { IfOk result (λ made. made ≡ timeout_message_for self.now sequence commitment.now) }
         ensures err { IsOkUnless result NoMemory }
     {
         if has_received(self.theirs, sequence) {
@@ -91,8 +89,7 @@ impl Ends<'_> {
     ) -> Result<Message, Refusal>
         requires height { 0 < self.now.a.now.height }
         requires peer { self.now.mine.now.end.peer_channel ≡ Some self.now.peer.now }
-        ensures ok { IfOk result (λ made. let packet = packet_between (peer_of self.now.mine.now) (self.now.port.now, self.now.channel.now) sequence commitment.now in
-            made ≡ recv_message packet self.now.a.now.height (proof_at self.now.a.now (commitment_key packet))) }
+        ensures ok { IfOk result (λ made. IsRecvMessage self.now sequence commitment.now made) }
         ensures err { IsOkUnless result NoMemory }
     {
         let proof = self.committed(alloc, sequence)?;
@@ -122,8 +119,7 @@ impl Ends<'_> {
     ) -> Result<Message, Refusal>
         requires height { 0 < self.now.a.now.height }
         requires peer { self.now.mine.now.end.peer_channel ≡ Some self.now.peer.now }
-        ensures ok { IfOk result (λ made. let packet = packet_between (self.now.port.now, self.now.channel.now) (peer_of self.now.mine.now) sequence commitment.now in
-            made ≡ ack_message packet self.now.a.now.height ack.now (proof_at self.now.a.now (ack_key packet))) }
+        ensures ok { IfOk result (λ made. IsAckMessage self.now sequence commitment.now ack.now made) }
         ensures err { IsOkUnless result NoMemory }
     {
         let proof = self.acknowledged(alloc, sequence)?;
@@ -154,8 +150,7 @@ impl Ends<'_> {
     ) -> Result<Message, Refusal>
         requires height { 0 < self.now.a.now.height }
         requires peer { self.now.mine.now.end.peer_channel ≡ Some self.now.peer.now }
-        ensures ok { IfOk result (λ made. let packet = packet_between (self.now.port.now, self.now.channel.now) (peer_of self.now.mine.now) sequence commitment.now in
-            made ≡ timeout_message packet self.now.a.now.height (next_recv self.now.mine.now self.now.theirs.now) (proof_at self.now.a.now (unreceived_key self.now.mine.now packet))) }
+        ensures ok { IfOk result (λ made. IsTimeoutMessage self.now sequence commitment.now made) }
         ensures err { IsOkUnless result NoMemory }
     {
         let proof = self.unreceived(alloc, sequence)?;
@@ -188,8 +183,7 @@ impl Ends<'_> {
         requires peer { self.now.mine.now.end.peer_channel ≡ Some self.now.peer.now }
         requires closed { IsClosedProof self.now.a.now self.now.mine.now closed.old }
         ensures closed { IsClosedProof self.now.a.now self.now.mine.now closed.new }
-        ensures ok { IfOk result (λ made. let packet = packet_between (self.now.port.now, self.now.channel.now) (peer_of self.now.mine.now) sequence commitment.now in
-            made ≡ timeout_on_close_message packet self.now.a.now.height (next_recv self.now.mine.now self.now.theirs.now) (proof_at self.now.a.now (unreceived_key self.now.mine.now packet)) (proof_at self.now.a.now (destination_key packet))) }
+        ensures ok { IfOk result (λ made. IsTimeoutOnCloseMessage self.now sequence commitment.now made) }
         ensures err { IsOkUnless result NoMemory }
     {
         let proof = self.unreceived(alloc, sequence)?;
@@ -216,7 +210,7 @@ impl Ends<'_> {
     fn committed(&self, alloc: Global, sequence: u64) -> Result<Bytes, Refusal>
         requires height { 0 < self.now.a.now.height }
         requires peer { self.now.mine.now.end.peer_channel ≡ Some self.now.peer.now }
-        ensures ok { IfOk result (λ proof. proof ≡ proof_at self.now.a.now (key.Commitment self.now.mine.now.end.peer_port (peer_channel_of self.now.mine.now.end) sequence)) }
+        ensures ok { IfOk result (λ proof. proof ≡ proof_of_commitment self.now sequence) }
         ensures err { IsOkUnless result NoMemory }
     {
         let port = self.peer_port().clone()?;
@@ -228,7 +222,7 @@ impl Ends<'_> {
     fn acknowledged(&self, alloc: Global, sequence: u64) -> Result<Bytes, Refusal>
         requires height { 0 < self.now.a.now.height }
         requires peer { self.now.mine.now.end.peer_channel ≡ Some self.now.peer.now }
-        ensures ok { IfOk result (λ proof. proof ≡ proof_at self.now.a.now (key.Acknowledgement self.now.mine.now.end.peer_port (peer_channel_of self.now.mine.now.end) sequence)) }
+        ensures ok { IfOk result (λ proof. proof ≡ proof_of_ack self.now sequence) }
         ensures err { IsOkUnless result NoMemory }
     {
         let port = self.peer_port().clone()?;
@@ -269,7 +263,7 @@ impl Ends<'_> {
     fn unreceived(&self, alloc: Global, sequence: u64) -> Result<Bytes, Refusal>
         requires height { 0 < self.now.a.now.height }
         requires peer { self.now.mine.now.end.peer_channel ≡ Some self.now.peer.now }
-        ensures ok { IfOk result (λ proof. proof ≡ proof_at self.now.a.now (unreceived_at self.now.mine.now sequence)) }
+        ensures ok { IfOk result (λ proof. proof ≡ proof_of_unreceived self.now sequence) }
         ensures err { IsOkUnless result NoMemory }
     {
         let port = self.peer_port().clone()?;
@@ -321,7 +315,7 @@ fn packet(
     sequence: u64,
     commitment: &Commitment,
 ) -> Result<Packet, Refusal>
-    ensures ok { IfOk result (λ packet. packet ≡ packet_between (source_port.now, source_channel.now) (destination_port.now, destination_channel.now) sequence commitment.now) }
+    ensures ok { IfOk result (λ p. p ≡ packet_between (source_port.now, source_channel.now) (destination_port.now, destination_channel.now) sequence commitment.now) }
     ensures err { IsOkUnless result NoMemory }
 {
     Ok(Packet {

@@ -1,19 +1,13 @@
 //! What is planned for a chain.
 
-ghost use Rattle.std.specs.Prelude.{◌≡◌, ◌<◌, ◌&&◌, ◌||◌, ◌++◌, [], map, Some, is_some, IfOk, IfSome, OnOk, IsOkUnless};
-ghost use Rattle.std.specs.List.{filter, filter_map, flat_map};
-ghost use Rattle.ibc_ids.specs.Texts.{Text, same_text, text_cmp};
-ghost use Rattle.ibc_ids.specs.Maps.{at};
+ghost use Rattle.std.specs.Prelude.{◌≡◌, ◌<◌, ◌++◌, [], IfOk, IfSome, OnOk, IsOkUnless};
 ghost use Rattle.ibc_ids.specs.declared.refusal.Refusal.TheVariants.{NoMemory};
-ghost use Rattle.ibc_wire.specs.declared.messages.Message.TheVariants as message_of;
-ghost use Rattle.ibc_machine.specs.ics24.Image.{core_root};
-ghost use Rattle.ibc_machine.specs.chain.Records.{channel_at};
 ghost use Rattle.ibc_machine.specs.ics18.Relay as relay;
-ghost use Rattle.ibc_machine.specs.ics18.Relay.{pending_at, pending_message, update_of};
 ghost use Rattle.ibc_records.specs.ClientModels.{abstract_client};
-ghost use Rattle.ibc_relayer.specs.EndPairs.{IsEndPair, IsFoundEndPair};
+ghost use Rattle.ibc_relayer.specs.EndPairs.{IsFoundEndPair, IsPaired, StandsInView};
 ghost use Rattle.ibc_relayer.specs.Senders.{AreSenders};
-ghost use Rattle.ibc_relayer.specs.UsedClients.{is_over_client, AreUsed, is_to_update};
+ghost use Rattle.ibc_relayer.specs.UsedClients.{AreUsed, is_to_update, pending_at_ends, messages_at_ends, due_updates, update_to};
+ghost use Rattle.ibc_relayer.specs.PlannedEnds.{pending_messages, GoesOverItsClient, UsesMore};
 
 use crate::ends::{Ends, ends_of};
 use crate::senders::{few_senders, is_open_or_closed, is_silent};
@@ -54,8 +48,8 @@ fn plan_packets(
 ) -> Result<Used, Refusal>
     requires height { 0 < a.now.height }
     requires empty { messages.old.items ≡ [] }
-    ensures ok { OnOk result (messages.new.items ≡ filter_map (pending_message a.now b.now) (flat_map (pending_at a.now b.now) b.now.core.channels)) }
-    ensures used { IfOk result (λ used. AreUsed b.now (flat_map (pending_at a.now b.now) b.now.core.channels) used.entries) }
+    ensures ok { OnOk result (messages.new.items ≡ messages_at_ends a.now b.now) }
+    ensures used { IfOk result (λ used. AreUsed b.now (pending_at_ends a.now b.now) used.entries) }
     ensures err { IsOkUnless result NoMemory }
 {
     let senders = few_senders(alloc, a.plain(), b.plain());
@@ -75,8 +69,8 @@ fn plan_ends(
     requires height { 0 < a.now.height }
     requires senders { IfSome senders.now (λ senders. AreSenders a.now.core.channels senders.items) }
     requires empty { messages.old.items ≡ [] }
-    ensures ok { OnOk result (messages.new.items ≡ filter_map (pending_message a.now b.now) (flat_map (pending_at a.now b.now) b.now.core.channels)) }
-    ensures used { IfOk result (λ used. AreUsed b.now (flat_map (pending_at a.now b.now) b.now.core.channels) used.entries) }
+    ensures ok { OnOk result (messages.new.items ≡ messages_at_ends a.now b.now) }
+    ensures used { IfOk result (λ used. AreUsed b.now (pending_at_ends a.now b.now) used.entries) }
     ensures err { IsOkUnless result NoMemory }
 {
     let mut used = Used::new(alloc);
@@ -122,10 +116,10 @@ fn plan_end(
     used: &mut Used,
 ) -> Result<(), Refusal>
     requires height { 0 < ends.now.a.now.height }
-    requires ends { IsEndPair ends.now.a.now ends.now.b.now ends.now.port.now ends.now.channel.now ends.now.mine.now ends.now }
-    requires there { channel_at ends.now.b.now.core ends.now.port.now ends.now.channel.now ≡ Some ends.now.mine.now }
-    ensures ok { OnOk result (messages.new.items ≡ messages.old.items ++ filter_map (pending_message ends.now.a.now ends.now.b.now) (pending_at ends.now.a.now ends.now.b.now ((ends.now.port.now, ends.now.channel.now), ends.now.mine.now))) }
-    ensures used { OnOk result ((id : Text) → is_some (at text_cmp id used.new.entries) ≡ (is_over_client ends.now.b.now id (pending_at ends.now.a.now ends.now.b.now ((ends.now.port.now, ends.now.channel.now), ends.now.mine.now)) || is_some (at text_cmp id used.old.entries))) }
+    requires ends { IsPaired ends.now }
+    requires there { StandsInView ends.now }
+    ensures ok { OnOk result (messages.new.items ≡ messages.old.items ++ pending_messages ends.now) }
+    ensures used { OnOk result (UsesMore ends.now used.old.entries used.new.entries) }
     ensures err { IsOkUnless result NoMemory }
 {
     if !has_messages(alloc, ends, messages)? {
@@ -138,10 +132,10 @@ fn plan_end(
 // Adds the messages for an end. The result is whether there is one.
 fn has_messages(alloc: Global, ends: &Ends, messages: &mut Vec<Message>) -> Result<bool, Refusal>
     requires height { 0 < ends.now.a.now.height }
-    requires ends { IsEndPair ends.now.a.now ends.now.b.now ends.now.port.now ends.now.channel.now ends.now.mine.now ends.now }
-    requires there { channel_at ends.now.b.now.core ends.now.port.now ends.now.channel.now ≡ Some ends.now.mine.now }
-    ensures ok { OnOk result (messages.new.items ≡ messages.old.items ++ filter_map (pending_message ends.now.a.now ends.now.b.now) (pending_at ends.now.a.now ends.now.b.now ((ends.now.port.now, ends.now.channel.now), ends.now.mine.now))) }
-    ensures over { IfOk result (λ any. (id : Text) → is_over_client ends.now.b.now id (pending_at ends.now.a.now ends.now.b.now ((ends.now.port.now, ends.now.channel.now), ends.now.mine.now)) ≡ (any && same_text ends.now.client.now id)) }
+    requires ends { IsPaired ends.now }
+    requires there { StandsInView ends.now }
+    ensures ok { OnOk result (messages.new.items ≡ messages.old.items ++ pending_messages ends.now) }
+    ensures over { IfOk result (λ any. GoesOverItsClient ends.now any) }
     ensures err { IsOkUnless result NoMemory }
 {
     ends.lemma_in_order();
@@ -153,7 +147,7 @@ fn has_messages(alloc: Global, ends: &Ends, messages: &mut Vec<Message>) -> Resu
 // The updates of the clients that are used and don't know the height of `a`.
 fn updates(alloc: Global, a: &View, b: &View, used: &Used) -> Result<Vec<Message>, Refusal>
     requires { 0 < a.now.height }
-    ensures ok { IfOk result (λ updates. updates.items ≡ map (update_of a.now) (filter (is_to_update a.now used.now.entries) b.now.core.clients)) }
+    ensures ok { IfOk result (λ updates. updates.items ≡ due_updates a.now b.now used.now.entries) }
     ensures err { IsOkUnless result NoMemory }
 {
     let mut updates = Vec::new(alloc);
@@ -175,7 +169,7 @@ fn is_told(a: &View, used: &Used, id: &ClientId, client: &Client) -> bool
 // The update of a client by the height of `a`.
 fn update(a: &View, id: &ClientId) -> Result<Message, Refusal>
     requires { 0 < a.now.height }
-    ensures ok { IfOk result (λ message. message ≡ message_of.UpdateClient (record { client = id.now; header = record { chain = a.now.chain; height = a.now.height; time = a.now.time; root = core_root a.now.core } })) }
+    ensures ok { IfOk result (λ message. message ≡ update_to a.now id.now) }
     ensures err { IsOkUnless result NoMemory }
 {
     Ok(Message::UpdateClient(UpdateClient {

@@ -49,7 +49,7 @@ pub enum Difference {
 /// the genesis isn't allowed; `NoMemory`.
 pub fn replay(alloc: Global, genesis: &Genesis, entries: Vec<Entry>) -> Result<World, Difference>
     ensures replayed { IfOk result (λ world. IsReplay (genesis_state genesis.now) entries.items world) }
-    ensures different { IfErr result (λ why. IsDifference (genesis_state genesis.now) entries.items why) }
+    ensures different { IfErr result (λ e. IsDifference (genesis_state genesis.now) entries.items e) }
     ensures genesis { (result ≡ Err NoGenesis) ↔ (is_allowed (genesis_state genesis.now) ≡ false) }
 {
     match World::new(alloc, genesis) {
@@ -84,7 +84,7 @@ pub fn replay_on(world: &mut World, first: usize, entries: Vec<Entry>) -> Result
 fn replay_from(world: World, entries: Vec<Entry>) -> Result<World, Difference>
     ensures replayed { IfOk result (λ after. GoesOnAsStored world entries.items after) }
     ensures lawful { IfOk result IsLawfulUnlessClash }
-    ensures different { IfErr result (λ why. (after : WorldState) × StopsBy world 0 entries.items why after) }
+    ensures different { IfErr result (λ e. (w : WorldState) × StopsBy world 0 entries.items e w) }
 {
     let mut world = world;
     match replay_on(&mut world, 0, entries) {

@@ -4,3 +4,4 @@ pub mod Passes
 pub mod Rule
 pub mod SeatSteps
 pub mod TableFields
+pub mod TableCalls

@@ -1,10 +1,9 @@
 //! The table as its callers see it.
-ghost use Rattle.std.specs.Prelude.{◌≡◌, ◌+◌, ◌<◌, ◌≤◌, [], ◌∷◌, ◌++◌, Some, None, IfOk, IfErr, IfSome, IfNone, IsSome, OnOk, OnSome, slice_index, slice_get, IsOkUnless};
+ghost use Rattle.std.specs.Prelude.{◌≡◌, ◌+◌, ◌<◌, ◌≤◌, [], Some, None, IfOk, IfErr, IfSome, IfNone, IsSome, OnOk, OnSome, slice_index, IsOkUnless};
 ghost use mathlib.Core.List.{IsPrefix};
-ghost use Rattle.ibc_ids.specs.declared.refusal.Refusal.TheVariants.{NoMemory, TableFull};
-ghost use Rattle.ibc_ids.specs.declared.publication.Publication.{Publication};
-ghost use Rattle.ibc_ids.specs.Publications.{published_by, height_of, row_at};
-ghost use Rattle.ibc_root_table.specs.Publications.{publication, row_words, IsRoot, IsWithin};
+ghost use Rattle.ibc_ids.specs.declared.refusal.Refusal.TheVariants.{NoMemory};
+ghost use Rattle.ibc_ids.specs.Publications.{height_of};
+ghost use Rattle.ibc_root_table.specs.Publications.{IsWithin};
 
 use crate::knowledge::{PublicationTable, TableSeat};
 use crate::row::{ROW_LEN, root_of, row_of};
@@ -58,10 +57,10 @@ impl Model for Pass {
 }
 
 impl RootTable {
-    ghost use Rattle.ibc_root_table.specs.Passes.{SamePass, KeepsOwn, Publishes, AreDealt, own_chain, unused_pass};
-    ghost use Rattle.ibc_root_table.specs.Rule.{Owns, new_seat};
+    ghost use Rattle.ibc_root_table.specs.Passes.{SamePass, KeepsOwn, AreDealt, own_chain, unused_pass};
     ghost use Rattle.ibc_root_table.specs.SeatSteps.{FloorLooked};
     ghost use Rattle.ibc_root_table.specs.TableFields.{IsPlaceOf, SamePlace};
+    ghost use Rattle.ibc_root_table.specs.TableCalls.{IsNewTable, WritesFrom, IsLaid, PublishesNext, AddsOwn, HasRoom, IsTableFull, IsPublishedRow, OwnsFirst, IsNextRow, OnlyFloorsDiffer, IsLoadedRow, HearsOf};
 
     /// A table with no publications, the chains' own passes in their order, and then the passes that only read.
     /// There are 1 to 255 chains, each with a ring of at least one row.
@@ -74,8 +73,7 @@ impl RootTable {
         capacity: u64,
     ) -> Result<(RootTable, Vec<Pass>), Refusal>
         requires { (0 < chains) × (0 < window) }
-        ensures ok { IfOk result (λ made. (made.0.shape ≡ record { chains = chains; window = window; capacity = capacity })
-            × AreDealt chains readers made.0 made.1.items) }
+        ensures ok { IfOk result (λ made. IsNewTable chains readers window capacity made.0 made.1.items) }
         ensures err { IsOkUnless result NoMemory }
     {
         let shape = Shape {
@@ -91,7 +89,7 @@ impl RootTable {
     // The table, and the seat that writes for all chains.
     fn lay(alloc: Global, shape: Shape) -> Result<(RootTable, TableSeat), AllocError>
         requires { (0 < shape.chains) × (0 < shape.window) }
-        ensures { IfOk result (λ made. (made.0.shape ≡ shape) × IsPlaceOf made.0 made.1 × (made.1.me ≡ (new_seat shape 0 shape.chains, []))) }
+        ensures { IfOk result (λ made. IsLaid shape made.0 made.1) }
     {
         let words = vec![in alloc; 0u64; shape.word_count()]?;
         let (board, place): (PublicationTable, TableSeat) = Table::of_words(
@@ -111,7 +109,7 @@ impl RootTable {
         readers: usize,
     ) -> Result<Vec<Pass>, AllocError>
         requires table { IsPlaceOf self.now place }
-        requires view { place.me ≡ (new_seat self.now.shape 0 self.now.shape.chains, []) }
+        requires view { WritesFrom self.now.shape 0 place }
         ensures { IfOk result (λ passes. AreDealt self.now.shape.chains readers self.now passes.items) }
     {
         let mut passes = Vec::new(alloc);
@@ -127,8 +125,8 @@ impl RootTable {
     // The own pass of the seat's first chain, which the seat gives up.
     fn own_pass(&self, place: &mut TableSeat, chain: u8) -> Pass
         requires table { IsPlaceOf self.now place.old }
-        requires view { (chain < self.now.shape.chains) × (place.old.me ≡ (new_seat self.now.shape chain self.now.shape.chains, [])) }
-        ensures place { SamePlace place.old place.new × (place.new.me ≡ (new_seat self.now.shape (chain + 1) self.now.shape.chains, [])) }
+        requires view { (chain < self.now.shape.chains) × WritesFrom self.now.shape chain place.old }
+        ensures place { SamePlace place.old place.new × WritesFrom self.now.shape (chain + 1) place.new }
         ensures pass { result ≡ unused_pass self.now (Some chain) }
     {
         Pass {
@@ -172,14 +170,12 @@ impl RootTable {
         requires own { IsSome pass.old.own }
         ensures pass { SamePass pass.old pass.new }
 
-        ensures seen { OnOk result (Publishes pass.old.seen (publication (own_chain pass.old) root time) pass.new.seen) }
-        ensures own { OnOk result (published_by (own_chain pass.old) pass.new.seen
-            ≡ published_by (own_chain pass.old) pass.old.seen ++ publication (own_chain pass.old) root time ∷ []) }
+        ensures seen { OnOk result (PublishesNext root time pass.old pass.new) }
+        ensures own { OnOk result (AddsOwn root time pass.old pass.new) }
         ensures height { IfOk result (λ height. height ≡ height_of (own_chain pass.old) pass.new.seen) }
-        ensures room { OnOk result (height_of (own_chain pass.old) pass.old.seen < self.now.shape.capacity) }
+        ensures room { OnOk result (HasRoom self.now.shape pass.old) }
 
-        ensures full { IfErr result (λ refusal. (refusal ≡ TableFull)
-            × (height_of (own_chain pass.old) pass.old.seen ≡ self.now.shape.capacity) × (pass.new ≡ pass.old)) }
+        ensures full { IfErr result (λ refusal. IsTableFull self.now.shape pass.old pass.new refusal) }
     {
         let Some(chain) = pass.own else {
             unreachable!();
@@ -205,7 +201,7 @@ impl RootTable {
         ensures seen { IsPrefix pass.old.seen pass.new.seen }
         ensures own { KeepsOwn pass.old pass.new }
 
-        ensures row { IfSome result (λ row. row_at pass.new.seen chain height ≡ Some (publication chain row.0 row.1)) }
+        ensures row { IfSome result (λ row. IsPublishedRow pass.new.seen chain height row.0 row.1) }
         ensures kept { OnSome result (height_of chain pass.new.seen < height + self.now.shape.window) }
         ensures gone { IfNone result (height + self.now.shape.window ≤ height_of chain pass.new.seen + 1) }
     {
@@ -221,9 +217,9 @@ impl RootTable {
     // Raises the floor, so that the ring has a slot for the next row.
     fn make_room(&self, place: &mut TableSeat, chain: u8, row: u64)
         requires table { IsPlaceOf self.now place.old }
-        requires own { (place.old.me.0.first_own ≡ chain) × Owns chain place.old.me.0 × (chain < self.now.shape.chains) }
+        requires own { OwnsFirst self.now.shape chain place.old }
         requires row { (row ≡ height_of chain place.old.me.0.seen) × (row < self.now.shape.capacity) }
-        ensures same { SamePlace place.old place.new × (place.new.me ≡ (record place.old.me.0 { floors = place.new.me.0.floors }, place.old.me.1)) }
+        ensures same { OnlyFloorsDiffer place.old place.new }
         ensures room { row + 1 ≤ slice_index place.new.me.0.floors chain + self.now.shape.window }
     {
         if row < self.shape.window {
@@ -248,8 +244,8 @@ impl RootTable {
     // Stores the next row of the seat's first chain, which nobody reads yet.
     fn store_row(&self, place: &mut TableSeat, chain: u8, row: u64, words: &[u64; ROW_LEN])
         requires table { IsPlaceOf self.now place.old }
-        requires own { (place.old.me.0.first_own ≡ chain) × Owns chain place.old.me.0 × (chain < self.now.shape.chains) }
-        requires row { (row ≡ height_of chain place.old.me.0.seen) × (row < self.now.shape.capacity) × (place.old.me.0.draft ≡ []) }
+        requires own { OwnsFirst self.now.shape chain place.old }
+        requires row { IsNextRow self.now.shape chain row place.old }
         requires room { row + 1 ≤ slice_index place.old.me.0.floors chain + self.now.shape.window }
         ensures same { SamePlace place.old place.new }
         ensures draft { place.new.me ≡ (record place.old.me.0 { draft = words.now }, place.old.me.1) }
@@ -266,9 +262,8 @@ impl RootTable {
     fn load_row(&self, place: &mut TableSeat, chain: u8, row: u64) -> [u64; ROW_LEN]
         requires table { IsPlaceOf self.now place.old }
         requires row { chain < self.now.shape.chains }
-        ensures same { SamePlace place.old place.new × (place.new.me ≡ (record place.old.me.0 { floors = place.new.me.0.floors }, place.old.me.1)) }
-        ensures words { (p : Publication) → slice_get (published_by chain place.old.me.0.seen) row ≡ Some p
-            → (slice_index place.new.me.0.floors chain ≤ row → result ≡ row_words p) × IsRoot p.root × (p.chain ≡ chain) }
+        ensures same { OnlyFloorsDiffer place.old place.new }
+        ensures words { IsLoadedRow chain row place.old result place.new }
     {
         let mut words = [0; ROW_LEN];
         for part in 0..ROW_LEN {
@@ -319,7 +314,7 @@ impl RootTable {
     fn tell(&self, from: &mut TableSeat, to: &mut TableSeat)
         requires tables { (from.old.table_id ≡ self.now.id) × (to.old.table_id ≡ self.now.id) }
         ensures from { SamePlace from.old from.new × (from.new.me ≡ from.old.me) }
-        ensures to { SamePlace to.old to.new × (to.new.me ≡ (record to.old.me.0 { heard = from.old.me.0.seen }, to.old.me.1)) }
+        ensures to { HearsOf from.old to.old to.new }
     {
         let teller = self.board.shared.split_seat::<CutReader>(from);
         self.board.shared.join_seat::<Hear>(to, teller);

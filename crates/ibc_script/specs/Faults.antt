@@ -1,5 +1,5 @@
 -- How the program ends on a fault.
-use Rattle.std.specs.Prelude.{◌≡◌, ◌⊎◌, ℕ}
+use Rattle.std.specs.Prelude.{◌≡◌, ◌⊎◌, ℕ, IsErrOf, Result}
 use Rattle.ibc_ids.specs.declared.refusal.Refusal.{Refusal}
 use Rattle.ibc_ids.specs.declared.refusal.Refusal.TheVariants as refusal
 use Rattle.ibc_script.specs.declared.fault.Fault.{Fault}
@@ -25,3 +25,7 @@ IsRunFault fault = (fault ≡ CannotWrite) ⊎ (fault ≡ NoMemory)
 -- a fault that may come while a script is judged
 abbrev pub IsScriptFault : Fault → Type 0
 IsScriptFault fault = (fault ≡ BadScript) ⊎ (fault ≡ NoMemory)
+
+-- the script is a bad one only where nothing is so
+abbrev pub OnlyWhereNone : {A : Type 0} → Result A Fault → (A → Type 0) → Type 0
+OnlyWhereNone {A} result IsSo = IsErrOf result BadScript → (a : A) → ¬ IsSo a

@@ -1,14 +1,15 @@
 -- Which script a JSON value is: the members of each step, and what each of them is.
-use Rattle.std.specs.Prelude.{◌≡◌, ◌⊎◌, ◌<◌, ◌≤◌, ℕ, min, Bool, true, false, ◌&&◌, codes, decimal, List, [], ◌∷◌, ◌++◌, length, slice_get, zip, Option, None, Some, option_map, option_and_then, IsTrue, IsUtf8, ⊤}
+use Rattle.std.specs.Prelude.{◌≡◌, ◌≢◌, ◌⊎◌, ◌<◌, ◌≤◌, ◌^◌, ℕ, min, Bool, true, false, ◌&&◌, codes, decimal, List, [], ◌∷◌, ◌++◌, length, slice_get, zip, Option, None, Some, option_map, option_and_then, IsTrue, IsUtf8, ⊤}
 use Rattle.std.specs.List.{list_any}
 use Rattle.std.specs.Option.{option_map_or}
 use Rattle.std.specs.Str.{bytes_eq}
 use Rattle.base64.specs.Engines.{standard}
-use Rattle.base64.specs.GeneralPurpose.{encode_of}
+use Rattle.base64.specs.GeneralPurpose.{encode_of, IsBytes}
 use Rattle.serde_json.specs.Data.{Data, Items, no_items, item, Members, no_members, member}
 use Rattle.serde_json.specs.Find.{as_array, as_number, as_object, as_str, as_u64, get}
 use Rattle.serde_json.specs.Read.{read}
-use Rattle.ibc_ids.specs.Paths.{path}
+use Rattle.ibc_ids.specs.Names.{is_channel, is_client, is_connection, is_denom, is_memo, is_port, is_receiver, is_user, is_version}
+use Rattle.ibc_ids.specs.Paths.{is_key, path}
 use Rattle.ibc_ids.specs.Texts.{Text}
 use Rattle.ibc_ids.specs.declared.key.Key.{Key}
 use Rattle.ibc_machine.specs.chain.Genesis.{ChainState, GenesisState, Holding, genesis_state}
@@ -17,6 +18,7 @@ use Rattle.ibc_wire.specs.Tokens.{is_listed}
 use Rattle.ibc_wire.specs.declared.records.Order.{Order}
 use Rattle.ibc_wire.specs.declared.records.Order.TheVariants.{Unordered, Ordered}
 use Rattle.ibc_wire.specs.declared.token.Token.{Token}
+use Rattle.ibc_script.specs.ChainNames.{is_chain_name}
 use Rattle.ibc_script.specs.EventKinds.{draft_kind}
 use Rattle.ibc_script.specs.declared.application.Application.{Application}
 use Rattle.ibc_script.specs.declared.application.Application.TheVariants.{Note, Transfer, TransferMany}
@@ -40,6 +42,14 @@ use Rattle.ibc_script.specs.declared.script.Step.TheVariants as step
 
 abbrev pub IsText : Text → Option Data → Type 0
 IsText text found = option_and_then as_str found ≡ Some text
+
+-- no text is found
+abbrev pub IsNoText : Option Data → Type 0
+IsNoText found = (text : Text) → ¬ IsText text found
+
+-- a text that has this form
+abbrev pub IsName : (Text → Bool) → Text → Option Data → Type 0
+IsName form name found = IsText name found × IsTrue (form name)
 
 -- a whole number below 2^64
 abbrev pub IsNumber : ℕ → Option Data → Type 0
@@ -70,15 +80,34 @@ IsNumberIfThere (Some n) found = IsNumber n found
 abbrev pub IsTextIfThere : Text → Option Data → Type 0
 IsTextIfThere text found = ((found ≡ None) × (text ≡ [])) ⊎ IsText text found
 
+-- something is found that is no text
+abbrev pub IsNoTextIfThere : Option Data → Type 0
+IsNoTextIfThere found = (text : Text) → ¬ IsTextIfThere text found
+
+abbrev pub IsMemo : Text → Option Data → Type 0
+IsMemo memo found = IsTextIfThere memo found × IsTrue (is_memo memo)
+
 -- texts that spell something
 abbrev pub IsAmount : ℕ → Option Data → Type 0
-IsAmount amount = IsText (decimal amount)
+IsAmount amount found = IsText (decimal amount) found × (amount < 2 ^ 128)
 
 abbrev pub IsNote : Text → Option Data → Type 0
-IsNote bytes = IsText (encode_of standard bytes)
+IsNote bytes found = IsText (encode_of standard bytes) found × IsBytes bytes
+
+-- the text writes no amount below 2^128
+abbrev pub IsNoAmount : Text → Type 0
+IsNoAmount text = (amount : ℕ) → amount < 2 ^ 128 → text ≢ decimal amount
+
+-- the text writes no bytes in base64
+abbrev pub IsNoNote : Text → Type 0
+IsNoNote text = (bytes : List ℕ) → IsBytes bytes → text ≢ encode_of standard bytes
 
 abbrev pub IsPath : Key → Option Data → Type 0
-IsPath key = IsText (path key)
+IsPath key found = IsText (path key) found × IsTrue (is_key key)
+
+-- 1 to 1,000 turns
+abbrev pub IsTurns : ℕ → Option Data → Type 0
+IsTurns turns found = IsNumber turns found × (1 ≤ turns) × (turns ≤ 1000)
 
 abbrev pub order_name : Order → Text
 order_name Ordered = codes "ORDERED"
@@ -93,20 +122,20 @@ application_name TransferMany = codes "transfer2"
 abbrev pub IsChain : List Text → ℕ → Option Data → Type 0
 IsChain names n found = (name : Text) × (slice_get names n ≡ Some name) × IsText name found
 
--- `[chain, chain]`
+-- `[chain, chain]`, which differ
 abbrev pub AreChains : List Text → ℕ → ℕ → Option Data → Type 0
-AreChains names first second = IsListOf (IsChain names) (first ∷ second ∷ [])
+AreChains names first second found = IsListOf (IsChain names) (first ∷ second ∷ []) found × (first ≢ second)
 
 -- `[chain, port, channel, sequence]`
 abbrev pub IsPacket : List Text → SentPacket → Option Data → Type 0
 IsPacket names sent found =
     (chain port id sequence : Data) × AreItems (chain ∷ port ∷ id ∷ sequence ∷ []) found × IsChain names sent.chain (Some chain)
-    × IsText sent.port (Some port) × IsText sent.channel (Some id) × IsNumber sent.sequence (Some sequence)
+    × IsName is_port sent.port (Some port) × IsName is_channel sent.channel (Some id) × IsNumber sent.sequence (Some sequence)
 
 -- `[denomination, amount]`
 abbrev pub IsToken : Token → Option Data → Type 0
 IsToken token found =
-    (denom amount : Data) × AreItems (denom ∷ amount ∷ []) found × IsText token.denom (Some denom) × IsAmount token.amount (Some amount)
+    (denom amount : Data) × AreItems (denom ∷ amount ∷ []) found × IsName is_denom token.denom (Some denom) × IsAmount token.amount (Some amount)
 
 abbrev pub AreTokens : List Token → Option Data → Type 0
 AreTokens tokens found = IsListOf IsToken tokens found × IsTrue (is_listed tokens)
@@ -114,8 +143,8 @@ AreTokens tokens found = IsListOf IsToken tokens found × IsTrue (is_listed toke
 -- `[user, denomination, amount]`
 abbrev pub IsHolding : Holding → Option Data → Type 0
 IsHolding holding found =
-    (user denom amount : Data) × AreItems (user ∷ denom ∷ amount ∷ []) found × IsText holding.0 (Some user)
-    × IsText holding.1 (Some denom) × IsAmount holding.2 (Some amount)
+    (user denom amount : Data) × AreItems (user ∷ denom ∷ amount ∷ []) found × IsName is_user holding.0 (Some user)
+    × IsName is_denom holding.1 (Some denom) × IsAmount holding.2 (Some amount)
 
 -- ---- objects
 
@@ -156,37 +185,40 @@ source_fields names from =
 abbrev pub client_fields : List Text → ClientDraft → List JsonField
 client_fields names (client.Create of) = field (codes "of") (IsChain names of) ∷ []
 client_fields names (client.Update id height) =
-    field (codes "client") (IsText id) ∷ field (codes "height") (IsNumber height) ∷ []
+    field (codes "client") (IsName is_client id) ∷ field (codes "height") (IsNumber height) ∷ []
+
+abbrev pub client_ends_fields : Text → Text → List JsonField
+client_ends_fields id peer_client =
+    field (codes "client") (IsName is_client id) ∷ field (codes "peer_client") (IsName is_client peer_client) ∷ []
 
 abbrev pub connection_fields : List Text → ConnectionDraft → List JsonField
-connection_fields names (connection.OpenInit id peer_client) =
-    field (codes "client") (IsText id) ∷ field (codes "peer_client") (IsText peer_client) ∷ []
+connection_fields names (connection.OpenInit id peer_client) = client_ends_fields id peer_client
 connection_fields names (connection.OpenTry id peer_client peer_connection from) =
-    field (codes "client") (IsText id) ∷ field (codes "peer_client") (IsText peer_client)
-    ∷ field (codes "peer_connection") (IsText peer_connection) ∷ source_fields names from
+    client_ends_fields id peer_client
+    ++ field (codes "peer_connection") (IsName is_connection peer_connection) ∷ source_fields names from
 connection_fields names (connection.OpenAck id peer_connection from) =
-    field (codes "connection") (IsText id)
-    ∷ field (codes "peer_connection") (IsText peer_connection) ∷ source_fields names from
+    field (codes "connection") (IsName is_connection id)
+    ∷ field (codes "peer_connection") (IsName is_connection peer_connection) ∷ source_fields names from
 connection_fields names (connection.OpenConfirm id from) =
-    field (codes "connection") (IsText id) ∷ source_fields names from
+    field (codes "connection") (IsName is_connection id) ∷ source_fields names from
 
 abbrev pub opening_fields : Text → Order → Text → Text → List JsonField
 opening_fields port order id peer_port =
-    field (codes "port") (IsText port) ∷ field (codes "order") (IsText (order_name order))
-    ∷ field (codes "connection") (IsText id) ∷ field (codes "peer_port") (IsText peer_port) ∷ []
+    field (codes "port") (IsName is_port port) ∷ field (codes "order") (IsText (order_name order))
+    ∷ field (codes "connection") (IsName is_connection id) ∷ field (codes "peer_port") (IsName is_port peer_port) ∷ []
 
 abbrev pub channel_end_fields : Text → Text → List JsonField
-channel_end_fields port id = field (codes "port") (IsText port) ∷ field (codes "channel") (IsText id) ∷ []
+channel_end_fields port id = field (codes "port") (IsName is_port port) ∷ field (codes "channel") (IsName is_channel id) ∷ []
 
 abbrev pub channel_fields : List Text → ChannelDraft → List JsonField
 channel_fields names (channel.OpenInit m) =
-    opening_fields m.port m.order m.connection m.peer_port ++ field (codes "version") (IsText m.version) ∷ []
+    opening_fields m.port m.order m.connection m.peer_port ++ field (codes "version") (IsName is_version m.version) ∷ []
 channel_fields names (channel.OpenTry d) =
     opening_fields d.port d.order d.connection d.peer_port
-    ++ field (codes "peer_channel") (IsText d.peer_channel) ∷ field (codes "version") (IsText d.version)
+    ++ field (codes "peer_channel") (IsName is_channel d.peer_channel) ∷ field (codes "version") (IsName is_version d.version)
     ∷ source_fields names d.from
 channel_fields names (channel.OpenAck port id peer_channel from) =
-    channel_end_fields port id ++ field (codes "peer_channel") (IsText peer_channel) ∷ source_fields names from
+    channel_end_fields port id ++ field (codes "peer_channel") (IsName is_channel peer_channel) ∷ source_fields names from
 channel_fields names (channel.OpenConfirm port id from) = channel_end_fields port id ++ source_fields names from
 channel_fields names (channel.CloseInit m) = channel_end_fields m.port m.channel
 channel_fields names (channel.CloseConfirm port id from) = channel_end_fields port id ++ source_fields names from
@@ -195,25 +227,29 @@ abbrev pub timeout_fields : ℕ → ℕ → List JsonField
 timeout_fields height time =
     field (codes "timeout_height") (IsNumber height) ∷ field (codes "timeout_time") (IsNumber time) ∷ []
 
+abbrev pub sending_fields : Text → Text → Text → Text → ℕ → ℕ → List JsonField
+sending_fields id user receiver memo height time =
+    field (codes "channel") (IsName is_channel id) ∷ field (codes "user") (IsName is_user user)
+    ∷ field (codes "receiver") (IsName is_receiver receiver) ∷ field (codes "memo") (IsMemo memo) ∷ timeout_fields height time
+
+abbrev pub sent_fields : List Text → SentPacket → ProofSource → List JsonField
+sent_fields names sent from = field (codes "packet") (IsPacket names sent) ∷ source_fields names from
+
 abbrev pub packet_fields : List Text → PacketDraft → List JsonField
 packet_fields names (packet.Transfer m) =
-    field (codes "channel") (IsText m.channel) ∷ field (codes "user") (IsText m.user)
-    ∷ field (codes "denom") (IsText m.denom) ∷ field (codes "amount") (IsAmount m.amount)
-    ∷ field (codes "receiver") (IsText m.receiver) ∷ field (codes "memo") (IsTextIfThere m.memo)
-    ∷ timeout_fields m.timeout_height m.timeout_time
+    field (codes "denom") (IsName is_denom m.denom) ∷ field (codes "amount") (IsAmount m.amount)
+    ∷ sending_fields m.channel m.user m.receiver m.memo m.timeout_height m.timeout_time
 packet_fields names (packet.TransferMany m) =
-    field (codes "channel") (IsText m.channel) ∷ field (codes "user") (IsText m.user)
-    ∷ field (codes "tokens") (AreTokens m.tokens) ∷ field (codes "receiver") (IsText m.receiver)
-    ∷ field (codes "memo") (IsTextIfThere m.memo) ∷ timeout_fields m.timeout_height m.timeout_time
+    field (codes "tokens") (AreTokens m.tokens)
+    ∷ sending_fields m.channel m.user m.receiver m.memo m.timeout_height m.timeout_time
 packet_fields names (packet.SendNote m) =
-    field (codes "channel") (IsText m.channel) ∷ field (codes "data") (IsNote m.payload)
+    field (codes "channel") (IsName is_channel m.channel) ∷ field (codes "data") (IsNote m.payload)
     ∷ timeout_fields m.timeout_height m.timeout_time
 packet_fields names (packet.Recv sent height) =
     field (codes "packet") (IsPacket names sent) ∷ field (codes "height") (IsNumber height) ∷ []
-packet_fields names (packet.Ack sent from) = field (codes "packet") (IsPacket names sent) ∷ source_fields names from
-packet_fields names (packet.Timeout sent from) = field (codes "packet") (IsPacket names sent) ∷ source_fields names from
-packet_fields names (packet.TimeoutOnClose sent from) =
-    field (codes "packet") (IsPacket names sent) ∷ source_fields names from
+packet_fields names (packet.Ack sent from) = sent_fields names sent from
+packet_fields names (packet.Timeout sent from) = sent_fields names sent from
+packet_fields names (packet.TimeoutOnClose sent from) = sent_fields names sent from
 
 abbrev pub draft_fields : List Text → Draft → List JsonField
 draft_fields names (draft.Client d) = client_fields names d
@@ -221,11 +257,13 @@ draft_fields names (draft.Connection d) = connection_fields names d
 draft_fields names (draft.Channel d) = channel_fields names d
 draft_fields names (draft.Packet d) = packet_fields names d
 
+-- an object that has these members beside `do` and `on`, and no others
+abbrev pub HasBeside : List JsonField → Data → Type 0
+HasBeside fields given = IsTrue (has_only (codes "do" ∷ codes "on" ∷ names_of fields) given) × AreFields fields given
+
 -- a message of this name, by the members of its step but `do` and `on`
 abbrev pub IsDraft : Text → List Text → Data → Draft → Type 0
-IsDraft name names given d =
-    (wire.name_of (draft_kind d) ≡ name) × IsTrue (has_only (codes "do" ∷ codes "on" ∷ names_of (draft_fields names d)) given)
-    × AreFields (draft_fields names d) given
+IsDraft name names given d = (wire.name_of (draft_kind d) ≡ name) × HasBeside (draft_fields names d) given
 
 -- ---- steps
 
@@ -245,14 +283,14 @@ step_fields names (step.Prove on height key) =
     do_field (codes "prove") ∷ on_field names on ∷ field (codes "height") (IsNumber height)
     ∷ field (codes "path") (IsPath key) ∷ []
 step_fields names (step.Totals on id denom) =
-    do_field (codes "totals") ∷ on_field names on ∷ field (codes "channel") (IsText id)
-    ∷ field (codes "denom") (IsText denom) ∷ []
+    do_field (codes "totals") ∷ on_field names on ∷ field (codes "channel") (IsName is_channel id)
+    ∷ field (codes "denom") (IsName is_denom denom) ∷ []
 step_fields names (step.Open first second app) =
     do_field (codes "open") ∷ field (codes "chains") (AreChains names first second)
     ∷ field (codes "app") (IsText (application_name app)) ∷ []
 step_fields names (step.Relay first second turns) =
     do_field (codes "relay") ∷ field (codes "chains") (AreChains names first second)
-    ∷ field (codes "turns") (IsNumber turns) ∷ []
+    ∷ field (codes "turns") (IsTurns turns) ∷ []
 
 abbrev pub IsStepObject : List Text → Step → Option Data → Type 0
 IsStepObject names s None = ⊥
@@ -265,7 +303,7 @@ abbrev pub IsChainStart : Text × ChainState → Option Data → Type 0
 IsChainStart start None = ⊥
 IsChainStart (name, start) (Some given) =
     IsObject (
-    field (codes "name") (IsText name) ∷ field (codes "time") (IsNumber start.time)
+    field (codes "name") (IsName is_chain_name name) ∷ field (codes "time") (IsNumber start.time)
     ∷ field (codes "balances") (IsListOf IsHolding start.balances) ∷ []
     ) given
 
@@ -286,6 +324,11 @@ content_of script =
 abbrev pub AreDifferent : List Text → Type 0
 AreDifferent names = (i j : ℕ) (name : Text) → i < j → slice_get names i ≡ Some name → slice_get names j ≡ Some name → ⊥
 
+-- the values are these chains: 8 at most, which have different names
+abbrev pub AreChainStarts : List Text → List ChainState → List Data → Type 0
+AreChainStarts names starts values =
+    AreEach IsChainStart (zip names starts) values × AreDifferent names × (length names ≡ length starts) × (length names ≤ 8)
+
 abbrev pub script_fields : ScriptContent → List JsonField
 script_fields content =
     field (codes "capacity") (IsNumber content.genesis.capacity)
@@ -303,3 +346,7 @@ IsScript content given =
 abbrev pub IsScriptText : Text → ScriptContent → Type 0
 IsScriptText text content =
     (length text ≤ 1048576) × IsUtf8 text × (value : Data) × (read text ≡ Some value) × IsScript content value
+
+-- the text is no script
+abbrev pub IsNoScriptText : Text → Type 0
+IsNoScriptText text = (content : ScriptContent) → ¬ IsScriptText text content

@@ -1,11 +1,11 @@
 //! Scripts are read from JSON.
 
-ghost use Rattle.std.specs.Prelude.{◌≡◌, ◌<◌, Some, codes, decimal, length, IfErr, IfOk, IsErrOf, IsUtf8};
-ghost use Rattle.serde_json.specs.Find.{get};
+ghost use Rattle.std.specs.Prelude.{◌≡◌, ◌<◌, ◌^◌, None, Some, decimal, length, IfErr, IfOk, IsErrOf, IsTrue, IsUtf8};
 ghost use Rattle.serde_json.specs.Read.{read};
 ghost use Rattle.serde_json.specs.View.{view};
-ghost use Rattle.ibc_script.specs.Faults.{IsScriptFault};
-ghost use Rattle.ibc_script.specs.ScriptValues.{IsAmount, IsScript, IsScriptText, IsText, IsWindow, content_of};
+ghost use Rattle.ibc_script.specs.Faults.{IsScriptFault, OnlyWhereNone};
+ghost use Rattle.ibc_script.specs.ReadValues.{IsNoScript, IsWindowIn};
+ghost use Rattle.ibc_script.specs.ScriptValues.{IsAmount, IsName, IsNoScriptText, IsScript, IsScriptText, content_of};
 
 mod chains;
 mod channels;
@@ -32,6 +32,7 @@ const USUAL_WINDOW: u64 = 4_096;
 fn parsed(alloc: Global, bytes: &[u8]) -> Result<Value, Fault>
     ensures value { IfOk result (λ value. IsUtf8 bytes.now × (read bytes.now ≡ Some (view value))) }
     ensures faults { IfErr result IsScriptFault }
+    ensures bad { IsErrOf result Fault.BadScript → IsUtf8 bytes.now → read bytes.now ≡ None }
 {
     match Value::from_slice(alloc, bytes) {
         Ok(value) => Ok(value),
@@ -44,6 +45,8 @@ fn parsed(alloc: Global, bytes: &[u8]) -> Result<Value, Fault>
 fn read_amount(alloc: Global, text: &str) -> Result<u128, Fault>
     ensures amount { IfOk result (λ amount. text.now ≡ decimal amount) }
     ensures faults { IfErr result IsScriptFault }
+    ensures fits { IfOk result (λ amount. amount < 2 ^ 128) }
+    ensures bad { OnlyWhereNone result (λ amount. (text.now ≡ decimal amount) × (amount < 2 ^ 128)) }
 {
     amount_of(alloc, text)?.ok_or(Fault::BadScript)
 }
@@ -52,6 +55,7 @@ fn read_amount(alloc: Global, text: &str) -> Result<u128, Fault>
 fn item_amount(alloc: Global, item: &Value) -> Result<u128, Fault>
     ensures amount { IfOk result (λ amount. IsAmount amount (Some (view item.now))) }
     ensures faults { IfErr result IsScriptFault }
+    ensures bad { OnlyWhereNone result (λ amount. IsAmount amount (Some (view item.now))) }
 {
     read_amount(alloc, item_text(item)?)
 }
@@ -59,6 +63,8 @@ fn item_amount(alloc: Global, item: &Value) -> Result<u128, Fault>
 fn parse_name<K: NameKind>(alloc: Global, text: &str) -> Result<Name<K>, Fault>
     ensures name { IfOk result (λ name. name ≡ text.now) }
     ensures faults { IfErr result IsScriptFault }
+    ensures form { IfOk result (λ _. IsTrue (K.form text.now)) }
+    ensures bad { IsErrOf result Fault.BadScript → ¬ IsTrue (K.form text.now) }
 {
     match Name::parse(alloc, text) {
         Ok(name) => Ok(name),
@@ -68,19 +74,21 @@ fn parse_name<K: NameKind>(alloc: Global, text: &str) -> Result<Name<K>, Fault>
 
 // The name that an item of a list is, a text.
 fn item_name<K: NameKind>(alloc: Global, item: &Value) -> Result<Name<K>, Fault>
-    ensures name { IfOk result (λ name. IsText name (Some (view item.now))) }
+    ensures name { IfOk result (λ name. IsName K.form name (Some (view item.now))) }
     ensures faults { IfErr result IsScriptFault }
+    ensures bad { OnlyWhereNone result (λ name. IsName K.form name (Some (view item.now))) }
 {
     parse_name(alloc, item_text(item)?)
 }
 
 /// The script that the bytes write in JSON. That a world begins with its genesis is judged by the world. Faults:
-/// `BadScript` where the bytes are too many or no JSON, or something is missing, unknown or out of its form;
+/// `BadScript` only where the bytes are too many or no JSON, or something is missing, unknown or out of its form;
 /// `NoMemory`.
 pub fn read_script(alloc: Global, bytes: &[u8]) -> Result<Script, Fault>
     ensures script { IfOk result (λ script. IsScriptText bytes.now (content_of script)) }
     ensures too_long { 1048576 < length bytes.now → IsErrOf result Fault.BadScript }
     ensures faults { IfErr result IsScriptFault }
+    ensures bad { IsErrOf result Fault.BadScript → IsNoScriptText bytes.now }
 {
     if bytes.len() > MOST_BYTES {
         return Err(Fault::BadScript);
@@ -93,8 +101,9 @@ pub fn read_script(alloc: Global, bytes: &[u8]) -> Result<Script, Fault>
 
 // How many heights the chains of a script keep.
 fn read_window(script: &Value, capacity: u64) -> Result<u64, Fault>
-    ensures window { IfOk result (λ window. IsWindow capacity window (get (codes "window") (view script.now))) }
+    ensures window { IfOk result (IsWindowIn script.now capacity) }
     ensures faults { IfErr result IsScriptFault }
+    ensures bad { OnlyWhereNone result (IsWindowIn script.now capacity) }
 {
     match optional_number(script, "window")? {
         Some(window) => Ok(window),
@@ -106,6 +115,7 @@ fn read_window(script: &Value, capacity: u64) -> Result<u64, Fault>
 fn read_members(alloc: Global, script: &Value) -> Result<Script, Fault>
     ensures script { IfOk result (λ read. IsScript (content_of read) (view script.now)) }
     ensures faults { IfErr result IsScriptFault }
+    ensures bad { IsErrOf result Fault.BadScript → IsNoScript script.now }
 {
     has_only(script, &["capacity", "window", "chains", "steps"])?;
     let capacity = number(script, "capacity")?;

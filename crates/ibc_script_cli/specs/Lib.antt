@@ -1,6 +1,7 @@
 pub mod Balances
 pub mod ScriptChains
 pub mod Completing
+pub mod Completers
 pub mod Lines
 pub mod Opening
 pub mod Program

@@ -21,6 +21,7 @@ use Rattle.ibc_script_cli.specs.declared.opening.Handshake.{Handshake}
 use Rattle.ibc_script_cli.specs.declared.opening.HandshakeParty.{HandshakeParty}
 use Rattle.ibc_script_cli.specs.declared.opening.HandshakeSide.{HandshakeSide}
 use Rattle.ibc_script_cli.specs.declared.opening.HandshakeSide.TheVariants.{First, Second}
+use Rattle.ibc_script_cli.specs.declared.opening.drafts.DraftWriter.{DraftWriter}
 
 -- ---- what the chains have given
 
@@ -112,7 +113,26 @@ draft_of app kind.ChanOpenAck own peer = channel_ack_draft app own peer
 draft_of app kind.ChanOpenConfirm own peer = channel_confirm_draft app own peer
 draft_of app _ own peer = None
 
+-- ---- messages, by what they are made of
+
+-- of the own chain's names
+abbrev pub draft_from_own : (Application → HandshakeParty → Option Draft) → DraftWriter → Option Draft
+draft_from_own make writer = make writer.application writer.own.now
+
+-- of the names of both chains
+abbrev pub draft_from_both : (Application → HandshakeParty → HandshakeParty → Option Draft) → DraftWriter → Option Draft
+draft_from_both make writer = make writer.application writer.own.now writer.peer.now
+
+-- the message of a kind
+abbrev pub draft_of_kind : MessageKind → DraftWriter → Option Draft
+draft_of_kind k writer = draft_of writer.application k writer.own.now writer.peer.now
+
 -- ---- both chains
+
+-- an `open` of which nothing is done yet
+abbrev pub new_handshake : Application → ℕ → ℕ → Handshake
+new_handshake app first second =
+    record { application = app; first = new_party first; second = new_party second }
 
 abbrev pub own_of : HandshakeSide → Handshake → HandshakeParty
 own_of First o = o.first

@@ -1,11 +1,13 @@
 -- A run of a script: its acts in turn, what each of them asks the chains for, and what it writes.
 use Rattle.std.specs.Prelude.{◌≡◌, ◌⊎◌, ℕ, zero, suc, ◌+◌, codes, List, [], ◌∷◌, ◌++◌, map, slice_get, Option, None, Some, option_map, decimal, Result, Ok, Err}
+use Rattle.std.specs.Global.{Vec}
 use Rattle.std.specs.List.{flat_map, range_with_len}
 use Rattle.std.specs.Option.{unwrap_or}
 use Rattle.std.specs.Io.KnownBytes.{Appends}
 use Rattle.base64.specs.Engines.{standard}
 use Rattle.base64.specs.GeneralPurpose.{encode_of}
 use Rattle.ibc_ids.specs.Texts.{Text}
+use Rattle.ibc_ids.specs.declared.account.Account.{Account}
 use Rattle.ibc_ids.specs.declared.refusal.Refusal.{Refusal}
 use Rattle.ibc_machine.specs.declared.event.Event.TheVariants as event
 use Rattle.ibc_machine.specs.declared.reply.Effect.{Effect}
@@ -20,6 +22,7 @@ use Rattle.ibc_script.specs.declared.event_kind.EventKind.{EventKind}
 use Rattle.ibc_script.specs.declared.event_kind.EventKind.TheVariants as kind
 use Rattle.ibc_script.specs.declared.script.Step.{Step}
 use Rattle.ibc_script.specs.declared.script.Step.TheVariants as step
+use Rattle.ibc_script_cli.specs.Balances.{holding_of, notes_of}
 use Rattle.ibc_script_cli.specs.Completing.{IsProofBytesAt, MakesMessage}
 use Rattle.ibc_script_cli.specs.Lines.{digits_of, reply_words, spaced_words, totals_words}
 use Rattle.ibc_script_cli.specs.Opening.{effect_given_by, new_party, own_of, turn_draft, turns_of_open, with_effect_at}
@@ -210,6 +213,18 @@ IsCut old new text = (written rest : Text) × (text ≡ written ++ rest) × Appe
 abbrev pub WritesText : {T E : Type 0} → Result T E → Option Text → Option Text → Text → Type 0
 WritesText (Ok x) old new text = Appends old new text
 WritesText (Err fault) old new text = IsCut old new text
+
+-- the same of an output, by what it holds
+abbrev pub Emits : {T E W : Type 0} → (W → Option Text) → Result T E → W → W → Text → Type 0
+Emits contents result old new text = WritesText result (contents old) (contents new) text
+
+-- the lines of what the accounts of a chain have
+abbrev pub held_text : Text → List (Account × Text × ℕ) → Text
+held_text chain balances = balance_lines chain (map holding_of balances)
+
+-- the lines of the notes that came over a chain's channels
+abbrev pub note_text : Text → List (Text × Vec Text) → Text
+note_text chain channels = note_lines chain (map notes_of channels)
 
 -- A chain was asked, and its answer is told: the line is written, and what the accepted event gave is given back. Where
 -- the call fails, nothing is written yet, or a beginning of the line.

@@ -1,5 +1,6 @@
 -- The chains of a script: how they go on by an event, and what they answer to a look, by their numbers.
 use Rattle.std.specs.Prelude.{ℕ, List, Option, Result, ⊤}
+use Rattle.std.specs.Global.{Vec}
 use Rattle.ibc_ids.specs.Maps.{Map}
 use Rattle.ibc_ids.specs.Texts.{Text}
 use Rattle.ibc_ids.specs.declared.key.Key.{Key}
@@ -55,6 +56,10 @@ any_answers = record {
 pub record ScriptChains (C : Type 0) : Type 1 where
   pub asked : C → Event → Reply → C → Type 0
   pub answers : C → ChainAnswers
+
+-- what relayers plan between two chains: the messages for the second, and those for the first
+abbrev pub ArePlans : {C : Type 0} → ScriptChains C → C → ℕ → ℕ → Vec Message × Vec Message → Type 0
+ArePlans known chains first second = λ plans. (known.answers chains).plans first second (plans.0.items, plans.1.items)
 
 -- nothing is known of these chains
 abbrev pub any_chains : {C : Type 0} → ScriptChains C

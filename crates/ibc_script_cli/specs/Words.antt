@@ -1,5 +1,6 @@
 -- What the words after the program's name may ask for.
-use Rattle.std.specs.Prelude.{⊤, ℕ, ◌-◌, ◌≤◌, Bool, true, false, ◌&&◌, nat_le, if◌then◌else◌, codes, List, [], ◌∷◌, Option, Some, None, is_some, option_map, option_and_then}
+use Rattle.std.specs.Prelude.{◌≡◌, ⊤, ℕ, ◌-◌, ◌≤◌, Bool, true, false, ◌&&◌, nat_le, if◌then◌else◌, codes, List, [], ◌∷◌, map, Option, Some, None, is_some, option_map, option_and_then}
+use Rattle.std.specs.Borrow.{Bor}
 use Rattle.std.specs.Str.{bytes_eq}
 use Rattle.clap.specs.declared.builder.action.ArgAction.TheVariants.{Set}
 use Rattle.clap.specs.Words.{App, Row, Rule, Text, first_of, new_app, new_rule, subcommand_of, with_rule, with_subcommand}
@@ -47,6 +48,22 @@ command_of words = if is_none (fault_of ibcworld words) then option_and_then com
 -- the words ask for what the program does
 abbrev pub are_words : List Text → Bool
 are_words words = is_some (command_of words)
+
+-- the words as the program is given them
+abbrev pub given_words : List (Bor Text) → List Text
+given_words words = map (λ word. word.now) words
+
+-- the words ask for this
+abbrev pub AskFor : List (Bor Text) → Command → Type 0
+AskFor words = λ command. command_of (given_words words) ≡ Some command
+
+-- the words ask for what the program does
+abbrev pub AskForSomething : List (Bor Text) → Type 0
+AskForSomething words = are_words (given_words words) ≡ true
+
+-- the words ask for nothing that the program does
+abbrev pub AskForNothing : List (Bor Text) → Type 0
+AskForNothing words = are_words (given_words words) ≡ false
 
 -- a race has 1 to 8 relayers
 abbrev pub IsPossible : Command → Type 0

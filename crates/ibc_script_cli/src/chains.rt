@@ -1,8 +1,8 @@
 //! The chains that the steps of a script are run on.
 
-ghost use Rattle.std.specs.Prelude.{IfOk, map};
-ghost use Rattle.ibc_script_cli.specs.Balances.{holding_of, notes_of};
-ghost use Rattle.ibc_script_cli.specs.ScriptChains.{ScriptChains, any_chains};
+ghost use Rattle.std.specs.Prelude.{IfOk};
+ghost use Rattle.ibc_script_cli.specs.Balances.{listed_balances, listed_notes};
+ghost use Rattle.ibc_script_cli.specs.ScriptChains.{ArePlans, ScriptChains, any_chains};
 
 use ibc_ids::{Account, Bytes, ChannelId, Denom, Key, PortId, Refusal, Root};
 use ibc_machine::{Event, Reply, Totals};
@@ -67,7 +67,7 @@ pub trait Chains {
     /// What relayers plan between two chains, from views of both as they stand at their last blocks: the messages for the
     /// second, which prove from the first, and those for the first.
     fn plans(&self, first: u8, second: u8) -> Result<(Vec<Message>, Vec<Message>), Refusal>
-        ensures { IfOk result (λ plans. (known.answers self.now).plans first second (plans.0.items, plans.1.items)) };
+        ensures { IfOk result (ArePlans known self.now first second) };
 }
 
 /// Chains that tell what they hold, by their numbers. Each call but `totals` is refused with `NoMemory` alone.
@@ -78,10 +78,10 @@ pub trait Holdings: Chains {
 
     /// The amounts above 0 on a chain, by account and then denomination, in the byte order of their texts.
     fn balances(&self, chain: u8) -> Result<Vec<(Account, Denom, u128)>, Refusal>
-        ensures { IfOk result (λ list. (Self.known.answers self.now).balances chain (map holding_of list.items)) };
+        ensures { IfOk result (λ it. (Self.known.answers self.now).balances chain (listed_balances it)) };
 
     /// The notes that came over each channel of a chain, in the order in which they came: the channels that have some,
     /// in the byte order of their texts.
     fn notes(&self, chain: u8) -> Result<Vec<(ChannelId, Vec<Bytes>)>, Refusal>
-        ensures { IfOk result (λ list. (Self.known.answers self.now).notes chain (map notes_of list.items)) };
+        ensures { IfOk result (λ list. (Self.known.answers self.now).notes chain (listed_notes list)) };
 }

@@ -2,6 +2,7 @@
 
 ghost use Rattle.std.specs.Prelude.{Some, IfOk, IsOkUnless};
 ghost use Rattle.ibc_script_cli.specs.Completing.{IsEncoding, IsClaim, IsProofBytesAt, IsClaimAt, IsRecord, MakesMessage, Stands};
+ghost use Rattle.ibc_script_cli.specs.Completers.{findings};
 
 mod channels;
 mod clients;
@@ -61,7 +62,7 @@ fn encoding_of(alloc: Global, proof: &Proof) -> Result<Option<Bytes>, Fault>
 impl<C: Chains + Drop> Completer<'_, C> {
     /// The message that a step of a chain sends, `None` where something that it needs isn't there. Fault: `NoMemory`.
     pub fn complete(&self, on: u8, draft: Draft) -> Result<Option<Message>, Fault>
-        ensures made { IfOk result (MakesMessage (C.known.answers self.now.chains.now) on draft) }
+        ensures made { IfOk result (MakesMessage (findings C.known self.now) on draft) }
         ensures err { IsOkUnless result Fault.NoMemory }
     {
         match draft {
@@ -74,7 +75,7 @@ impl<C: Chains + Drop> Completer<'_, C> {
 
     /// The record that a chain has at a key as it stands, `None` where there is none. Fault: `NoMemory`.
     fn standing<T: Wire + Drop>(&self, on: u8, key: Key) -> Result<Option<T>, Fault>
-        ensures is { IfOk result (Stands (C.known.answers self.now.chains.now) T.fields on key) }
+        ensures is { IfOk result (Stands (findings C.known self.now) T.fields on key) }
         ensures err { IsOkUnless result Fault.NoMemory }
     {
         let value = self.chains.value(on, &key);
@@ -87,7 +88,7 @@ impl<C: Chains + Drop> Completer<'_, C> {
 
     // What a chain proves of a key at a height, `None` where there is nothing.
     fn found(&self, from: ProofSource, key: Key) -> Result<Option<Proof>, Fault>
-        ensures found { IfOk result ((C.known.answers self.now.chains.now).proof from.chain from.height key) }
+        ensures found { IfOk result ((findings C.known self.now).proof from.chain from.height key) }
         ensures err { IsOkUnless result Fault.NoMemory }
     {
         let found = self.chains.proof(from.chain, from.height, &key);
@@ -97,7 +98,7 @@ impl<C: Chains + Drop> Completer<'_, C> {
 
     /// The encoding of the proof of a key at a height, `None` where there is none.
     pub fn proof(&self, from: ProofSource, key: Key) -> Result<Option<Bytes>, Fault>
-        ensures is { IfOk result (IsProofBytesAt (C.known.answers self.now.chains.now) from key) }
+        ensures is { IfOk result (IsProofBytesAt (findings C.known self.now) from key) }
         ensures err { IsOkUnless result Fault.NoMemory }
     {
         match self.found(from, key)? {
@@ -112,7 +113,7 @@ impl<C: Chains + Drop> Completer<'_, C> {
 
     /// The state of a client at a height, with the encoding of the proof that shows it; `None` where there is none.
     fn claim(&self, from: ProofSource, client: &ClientId) -> Result<Option<ClientClaim>, Fault>
-        ensures is { IfOk result (IsClaimAt (C.known.answers self.now.chains.now) from client.now) }
+        ensures is { IfOk result (IsClaimAt (findings C.known self.now) from client.now) }
         ensures err { IsOkUnless result Fault.NoMemory }
     {
         match self.found(from, Key::ClientState(client.clone()?))? {

@@ -1,11 +1,8 @@
 //! The lines that the program prints.
 
-ghost use Rattle.std.specs.Prelude.{◌≡◌, ◌++◌, IfOk, OnOk, IsOkUnless, string_bytes, map, option_map, codes, ◌∷◌, [], decimal};
-ghost use Rattle.base64.specs.Engines.{standard};
-ghost use Rattle.base64.specs.GeneralPurpose.{encode_of};
+ghost use Rattle.std.specs.Prelude.{◌≡◌, ◌++◌, IfOk, OnOk, IsOkUnless, string_bytes, codes, ◌∷◌, [], decimal};
 ghost use Rattle.ibc_ids.specs.Paths.{account_text};
-ghost use Rattle.ibc_ids.specs.Refusals.{number_of};
-ghost use Rattle.ibc_script_cli.specs.Lines.{line, printed_byte, spaced_words, effect_words, reply_words, digits_of, totals_words};
+ghost use Rattle.ibc_script_cli.specs.Lines.{IsLine, base64_of, effect_words, four_totals, held_words, hex_of, line, note_words, printed_byte, printed_bytes, refusal_words, reply_words, totals_answer, totals_front};
 
 use base64::engine::general_purpose::STANDARD;
 use ibc_ids::{Account, Bytes, ChannelId, Denom, Refusal, Root};
@@ -81,7 +78,7 @@ fn push_shown(text: &mut String, byte: u8) -> Result<(), AllocError>
 
 // The bytes of an acknowledgement, each that isn't printable as `?`.
 fn acknowledgement_text(alloc: Global, bytes: &[u8]) -> Result<String, AllocError>
-    ensures { IfOk result (λ text. string_bytes text ≡ map printed_byte bytes.now) }
+    ensures { IfOk result (λ text. string_bytes text ≡ printed_bytes bytes.now) }
 {
     let mut text = String::new(alloc);
     for byte in bytes {
@@ -109,7 +106,7 @@ fn accepted_line(
     kind: &str,
     effect: &Effect,
 ) -> Result<String, AllocError>
-    ensures { IfOk result (λ text. string_bytes text ≡ spaced_words (chain.now ∷ kind.now ∷ codes "ok" ∷ effect_words effect.now)) }
+    ensures { IfOk result (IsLine (chain.now ∷ kind.now ∷ codes "ok" ∷ effect_words effect.now)) }
 {
     match effect {
         Effect::None => ok_line(alloc, chain, kind),
@@ -124,14 +121,14 @@ fn accepted_line(
 
 // The line of an accepted event that gives nothing.
 fn ok_line(alloc: Global, chain: &str, kind: &str) -> Result<String, AllocError>
-    ensures { IfOk result (λ text. string_bytes text ≡ spaced_words (chain.now ∷ kind.now ∷ codes "ok" ∷ [])) }
+    ensures { IfOk result (IsLine (chain.now ∷ kind.now ∷ codes "ok" ∷ [])) }
 {
     format!(in alloc; "{chain} {kind} ok")
 }
 
 // The line of an accepted event that gives a number.
 fn counted_line(alloc: Global, chain: &str, kind: &str, number: u64) -> Result<String, AllocError>
-    ensures { IfOk result (λ text. string_bytes text ≡ spaced_words (chain.now ∷ kind.now ∷ codes "ok" ∷ decimal number ∷ [])) }
+    ensures { IfOk result (IsLine (chain.now ∷ kind.now ∷ codes "ok" ∷ decimal number ∷ [])) }
 {
     format!(in alloc; "{chain} {kind} ok {number}")
 }
@@ -143,7 +140,7 @@ fn acknowledged_line(
     kind: &str,
     bytes: &[u8],
 ) -> Result<String, AllocError>
-    ensures { IfOk result (λ text. string_bytes text ≡ spaced_words (chain.now ∷ kind.now ∷ codes "ok" ∷ map printed_byte bytes.now ∷ [])) }
+    ensures { IfOk result (IsLine (chain.now ∷ kind.now ∷ codes "ok" ∷ printed_bytes bytes.now ∷ [])) }
 {
     let shown = acknowledgement_text(alloc, bytes)?;
     given_line(alloc, chain, kind, shown.as_str())
@@ -151,7 +148,7 @@ fn acknowledged_line(
 
 // The line of an accepted event that gives a text.
 fn given_line(alloc: Global, chain: &str, kind: &str, given: &str) -> Result<String, AllocError>
-    ensures { IfOk result (λ text. string_bytes text ≡ spaced_words (chain.now ∷ kind.now ∷ codes "ok" ∷ given.now ∷ [])) }
+    ensures { IfOk result (IsLine (chain.now ∷ kind.now ∷ codes "ok" ∷ given.now ∷ [])) }
 {
     format!(in alloc; "{chain} {kind} ok {given}")
 }
@@ -162,14 +159,14 @@ fn refused_line(
     kind: &str,
     refusal: Refusal,
 ) -> Result<String, AllocError>
-    ensures { IfOk result (λ text. string_bytes text ≡ spaced_words (chain.now ∷ kind.now ∷ codes "no" ∷ decimal (number_of refusal) ∷ [])) }
+    ensures { IfOk result (IsLine (chain.now ∷ kind.now ∷ refusal_words refusal)) }
 {
     let number = refusal.number();
     format!(in alloc; "{chain} {kind} no {number}")
 }
 
 fn reply_line(alloc: Global, chain: &str, kind: &str, reply: &Reply) -> Result<String, AllocError>
-    ensures { IfOk result (λ text. string_bytes text ≡ spaced_words (chain.now ∷ kind.now ∷ reply_words reply.now)) }
+    ensures { IfOk result (IsLine (chain.now ∷ kind.now ∷ reply_words reply.now)) }
 {
     match reply {
         Reply::Ok(effect) => accepted_line(alloc, chain, kind, effect),
@@ -179,7 +176,7 @@ fn reply_line(alloc: Global, chain: &str, kind: &str, reply: &Reply) -> Result<S
 
 // The line of a message that needs something that isn't there.
 fn missing_line(alloc: Global, chain: &str, kind: &str) -> Result<String, AllocError>
-    ensures { IfOk result (λ text. string_bytes text ≡ spaced_words (chain.now ∷ kind.now ∷ codes "none" ∷ [])) }
+    ensures { IfOk result (IsLine (chain.now ∷ kind.now ∷ codes "none" ∷ [])) }
 {
     format!(in alloc; "{chain} {kind} none")
 }
@@ -192,7 +189,7 @@ fn amount_line(
     denom: &str,
     amount: u128,
 ) -> Result<String, AllocError>
-    ensures { IfOk result (λ text. string_bytes text ≡ spaced_words (codes "balance" ∷ chain.now ∷ account.now ∷ denom.now ∷ decimal amount ∷ [])) }
+    ensures { IfOk result (IsLine (held_words chain.now account.now denom.now amount)) }
 {
     format!(in alloc; "balance {chain} {account} {denom} {amount}")
 }
@@ -204,7 +201,7 @@ fn balance_line(
     denom: &str,
     amount: u128,
 ) -> Result<String, AllocError>
-    ensures { IfOk result (λ text. string_bytes text ≡ spaced_words (codes "balance" ∷ chain.now ∷ account_text account.now ∷ denom.now ∷ decimal amount ∷ [])) }
+    ensures { IfOk result (IsLine (held_words chain.now (account_text account.now) denom.now amount)) }
 {
     let account = account_text(alloc, account)?;
     amount_line(alloc, chain, account.as_str(), denom, amount)
@@ -218,7 +215,7 @@ fn encoded_note_line(
     index: u64,
     encoded: &str,
 ) -> Result<String, AllocError>
-    ensures { IfOk result (λ text. string_bytes text ≡ spaced_words (codes "note" ∷ chain.now ∷ channel.now ∷ decimal index ∷ encoded.now ∷ [])) }
+    ensures { IfOk result (IsLine (note_words chain.now channel.now index encoded.now)) }
 {
     format!(in alloc; "note {chain} {channel} {index} {encoded}")
 }
@@ -230,7 +227,7 @@ fn note_line(
     index: u64,
     bytes: &[u8],
 ) -> Result<String, AllocError>
-    ensures { IfOk result (λ text. string_bytes text ≡ spaced_words (codes "note" ∷ chain.now ∷ channel.now ∷ decimal index ∷ encode_of standard bytes.now ∷ [])) }
+    ensures { IfOk result (IsLine (note_words chain.now channel.now index (base64_of bytes.now))) }
 {
     let encoded = STANDARD.encode(alloc, bytes)?;
     encoded_note_line(alloc, chain, channel, index, encoded.as_str())
@@ -244,7 +241,7 @@ fn digits_line(
     height: u64,
     digits: &str,
 ) -> Result<String, AllocError>
-    ensures { IfOk result (λ text. string_bytes text ≡ spaced_words (chain.now ∷ what.now ∷ decimal height ∷ digits.now ∷ [])) }
+    ensures { IfOk result (IsLine (chain.now ∷ what.now ∷ decimal height ∷ digits.now ∷ [])) }
 {
     format!(in alloc; "{chain} {what} {height} {digits}")
 }
@@ -257,7 +254,7 @@ fn height_line(
     height: u64,
     bytes: Option<&[u8]>,
 ) -> Result<String, AllocError>
-    ensures { IfOk result (λ text. string_bytes text ≡ spaced_words (chain.now ∷ what.now ∷ decimal height ∷ digits_of (option_map (λ b. b.now) bytes.entry) ∷ [])) }
+    ensures { IfOk result (IsLine (chain.now ∷ what.now ∷ decimal height ∷ hex_of bytes.entry ∷ [])) }
 {
     match bytes {
         Some(bytes) => {
@@ -270,7 +267,7 @@ fn height_line(
 
 // The four numbers of totals, with blanks between.
 fn four_numbers(alloc: Global, totals: Totals) -> Result<String, AllocError>
-    ensures { IfOk result (λ text. string_bytes text ≡ spaced_words (decimal totals.escrow ∷ decimal totals.vouchers ∷ decimal totals.out ∷ decimal totals.back ∷ [])) }
+    ensures { IfOk result (IsLine (four_totals totals)) }
 {
     let Totals {
         escrow,
@@ -289,7 +286,7 @@ fn numbers_line(
     denom: &str,
     numbers: &str,
 ) -> Result<String, AllocError>
-    ensures { IfOk result (λ text. string_bytes text ≡ spaced_words (chain.now ∷ codes "totals" ∷ channel.now ∷ denom.now ∷ numbers.now ∷ [])) }
+    ensures { IfOk result (IsLine (totals_front chain.now channel.now denom.now (numbers.now ∷ []))) }
 {
     format!(in alloc; "{chain} totals {channel} {denom} {numbers}")
 }
@@ -302,7 +299,7 @@ fn counted_totals_line(
     denom: &str,
     totals: Totals,
 ) -> Result<String, AllocError>
-    ensures { IfOk result (λ text. string_bytes text ≡ spaced_words (chain.now ∷ codes "totals" ∷ channel.now ∷ denom.now ∷ decimal totals.escrow ∷ decimal totals.vouchers ∷ decimal totals.out ∷ decimal totals.back ∷ [])) }
+    ensures { IfOk result (IsLine (totals_front chain.now channel.now denom.now (four_totals totals))) }
 {
     let numbers = four_numbers(alloc, totals)?;
     numbers_line(alloc, chain, channel, denom, numbers.as_str())
@@ -316,7 +313,7 @@ fn totals_line(
     denom: &str,
     totals: Result<Totals, Refusal>,
 ) -> Result<String, AllocError>
-    ensures { IfOk result (λ text. string_bytes text ≡ spaced_words (chain.now ∷ codes "totals" ∷ totals_words channel.now denom.now totals)) }
+    ensures { IfOk result (IsLine (chain.now ∷ totals_answer channel.now denom.now totals)) }
 {
     match totals {
         Ok(totals) => counted_totals_line(alloc, chain, channel, denom, totals),

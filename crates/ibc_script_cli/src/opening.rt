@@ -1,7 +1,7 @@
 //! What the step `open` does in turn, and what the chains have given it.
 
 ghost use Rattle.std.specs.Prelude.{◌≡◌, IfOk, IsOkUnless};
-ghost use Rattle.ibc_script_cli.specs.Opening.{new_party, with_effect, origin_of, own_of, turn_draft, with_effect_at};
+ghost use Rattle.ibc_script_cli.specs.Opening.{new_handshake, new_party, with_effect, origin_of, own_of, turn_draft, with_effect_at};
 
 mod drafts;
 
@@ -150,7 +150,7 @@ pub struct Handshake {
 impl Handshake {
     /// An `open` of which nothing is done yet.
     pub fn new(application: Application, first: u8, second: u8) -> Handshake
-        ensures { result ≡ record { application = application; first = new_party first; second = new_party second } }
+        ensures { result ≡ new_handshake application first second }
     {
         Handshake {
             application,

@@ -1,10 +1,9 @@
 //! Lines are printed.
 
-ghost use Rattle.std.specs.Prelude.{◌++◌, codes, map, IfErr};
+ghost use Rattle.std.specs.Prelude.{◌++◌, codes, IfErr};
 ghost use Rattle.ibc_script.specs.Faults.{IsRunFault};
-ghost use Rattle.ibc_script_cli.specs.Balances.{holding_of, notes_of};
 ghost use Rattle.ibc_script_cli.specs.Lines.{line};
-ghost use Rattle.ibc_script_cli.specs.Runs.{WritesText, balance_lines, note_lines, numbered_lines};
+ghost use Rattle.ibc_script_cli.specs.Runs.{Emits, held_text, note_text, numbered_lines};
 
 use crate::{Line, line_text, write_line};
 use ibc_ids::{Account, Bytes, ChannelId, Denom};
@@ -14,7 +13,7 @@ use std::io::Write;
 
 /// Prints a line. Faults: `CannotWrite`, `NoMemory`.
 pub fn print<W: Write>(alloc: Global, printed: Line<'_>, output: &mut W) -> Result<(), Fault>
-    ensures written { WritesText result (W.contents output.old) (W.contents output.new) (line printed.entry ++ codes "\n") }
+    ensures written { Emits W.contents result output.old output.new (line printed.entry ++ codes "\n") }
     ensures faults { IfErr result IsRunFault }
 {
     let text = line_text(alloc, printed).map_err(Fault::no_memory)?;
@@ -28,7 +27,7 @@ pub fn print_balances<W: Write>(
     balances: &[(Account, Denom, u128)],
     output: &mut W,
 ) -> Result<(), Fault>
-    ensures written { WritesText result (W.contents output.old) (W.contents output.new) (balance_lines chain.now (map holding_of balances.now)) }
+    ensures written { Emits W.contents result output.old output.new (held_text chain.now balances.now) }
     ensures faults { IfErr result IsRunFault }
 {
     for (account, denom, amount) in balances {
@@ -51,7 +50,7 @@ fn print_notes_over<W: Write>(
     notes: &[Bytes],
     output: &mut W,
 ) -> Result<(), Fault>
-    ensures written { WritesText result (W.contents output.old) (W.contents output.new) (numbered_lines chain.now channel.now 1 notes.now) }
+    ensures written { Emits W.contents result output.old output.new (numbered_lines chain.now channel.now 1 notes.now) }
     ensures faults { IfErr result IsRunFault }
 {
     let mut index = 0;
@@ -75,7 +74,7 @@ pub fn print_notes<W: Write>(
     channels: &[(ChannelId, Vec<Bytes>)],
     output: &mut W,
 ) -> Result<(), Fault>
-    ensures written { WritesText result (W.contents output.old) (W.contents output.new) (note_lines chain.now (map notes_of channels.now)) }
+    ensures written { Emits W.contents result output.old output.new (note_text chain.now channels.now) }
     ensures faults { IfErr result IsRunFault }
 {
     for (channel, notes) in channels {

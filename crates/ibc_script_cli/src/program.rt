@@ -1,15 +1,14 @@
 //! The program, from its words and its input to the lines on its output.
 
-ghost use Rattle.std.specs.Prelude.{⊤, ◌≡◌, ◌⊎◌, ◌<◌, ◌≤◌, ℕ, List, map, true, false, length, Some, IfOk, IfErr, IfSome, IsErrOf, IsOk, OnErr, OnOk, Err};
+ghost use Rattle.std.specs.Prelude.{⊤, ◌≡◌, ◌⊎◌, ◌<◌, ◌≤◌, ℕ, List, length, IfOk, IfErr, IfSome, IsErrOf, IsOk, OnErr, OnOk};
 ghost use Rattle.std.specs.Io.KnownBytes.{Keeps};
 ghost use Rattle.ibc_machine.specs.chain.Genesis.{GenesisState, genesis_state};
 ghost use Rattle.ibc_script.specs.Faults.{IsRunFault, IsScriptFault};
-ghost use Rattle.ibc_script_cli.specs.Program.{HasBegun, HasRaced, HasRacedInPart, HasRun, IsInput, audit_text, audited_balance_lines, audited_balances, audited_note_lines, audited_notes};
-ghost use Rattle.ibc_script_cli.specs.Runs.{WritesText, balance_lines, name_of, note_lines};
-ghost use Rattle.ibc_script.specs.declared.script.Script.{Script as AnyScript};
+ghost use Rattle.ibc_script_cli.specs.Program.{HasBegun, HasBegunInput, HasRacedInput, HasRacedInputInPart, HasRun, HasRunInput, IsFaultOfRun, PrintsRace, PrintsRaceInPart, RefusesWords, all_held, all_noted, audit_text, held_on, note_on};
+ghost use Rattle.ibc_script_cli.specs.Runs.{Emits, name_of};
 ghost use Rattle.ibc_script.specs.declared.script.Step.{Step as AnyStep};
 ghost use Rattle.ibc_script_cli.specs.declared.racing.RaceAudit.{RaceAudit as ToldAudit};
-ghost use Rattle.ibc_script_cli.specs.Words.{are_words, command_of};
+ghost use Rattle.ibc_script_cli.specs.Words.{AskFor, AskForNothing, AskForSomething};
 ghost use Rattle.ibc_script_cli.specs.declared.words.Command.TheVariants as Asked;
 
 use crate::printing::{print_balances, print_notes};
@@ -71,15 +70,15 @@ pub fn drive<S: Worlds, Q: Races, R: Read + Drop, W: Write>(
     output: &mut W,
 ) -> Result<(), Fault>
     requires { Q.may_race races.now }
-    ensures asked { IfOk result (λ _. are_words (map (λ word. word.now) words.now) ≡ true) }
-    ensures bad_arguments { IsErrOf result Fault.BadArguments → are_words (map (λ word. word.now) words.now) ≡ false }
-    ensures words_first { are_words (map (λ word. word.now) words.now) ≡ false → (result ≡ Err Fault.BadArguments) ⊎ (result ≡ Err Fault.NoMemory) }
+    ensures asked { IfOk result (λ _. AskForSomething words.now) }
+    ensures bad_arguments { IsErrOf result Fault.BadArguments → AskForNothing words.now }
+    ensures words_first { AskForNothing words.now → RefusesWords result }
     ensures too_long { IfOk result (λ _. IfSome (R.remaining input) (λ known. length known < 1048577)) }
     ensures unwritten { IfErr result (λ fault. IsRunFault fault ⊎ (output.new ≡ output.old)) }
-    ensures lines { command_of (map (λ word. word.now) words.now) ≡ Some Asked.Run → OnOk result ((script : AnyScript) × IsInput (R.remaining input) script × HasRun S.begins S.keeps S.Chains.known script (W.contents output.old) (W.contents output.new)) }
-    ensures begun { command_of (map (λ word. word.now) words.now) ≡ Some Asked.Run → OnErr result (Keeps (W.contents output.old) (W.contents output.new) ⊎ ((script : AnyScript) × IsInput (R.remaining input) script × HasBegun S.begins S.Chains.known script (W.contents output.old) (W.contents output.new))) }
-    ensures race_lines { (relayers : ℕ) → command_of (map (λ word. word.now) words.now) ≡ Some (Asked.Race relayers) → OnOk result ((script : AnyScript) × IsInput (R.remaining input) script × HasRaced Q.raced script (W.contents output.old) (W.contents output.new)) }
-    ensures race_begun { (relayers : ℕ) → command_of (map (λ word. word.now) words.now) ≡ Some (Asked.Race relayers) → OnErr result (Keeps (W.contents output.old) (W.contents output.new) ⊎ ((script : AnyScript) × IsInput (R.remaining input) script × HasRacedInPart Q.raced script (W.contents output.old) (W.contents output.new))) }
+    ensures lines { AskFor words.now Asked.Run → OnOk result (HasRunInput S.begins S.keeps S.Chains.known (R.remaining input) (W.contents output.old) (W.contents output.new)) }
+    ensures begun { AskFor words.now Asked.Run → OnErr result (HasBegunInput S.begins S.Chains.known (R.remaining input) (W.contents output.old) (W.contents output.new)) }
+    ensures race_lines { (relayers : ℕ) → AskFor words.now (Asked.Race relayers) → OnOk result (HasRacedInput Q.raced (R.remaining input) (W.contents output.old) (W.contents output.new)) }
+    ensures race_begun { (relayers : ℕ) → AskFor words.now (Asked.Race relayers) → OnErr result (HasRacedInputInPart Q.raced (R.remaining input) (W.contents output.old) (W.contents output.new)) }
 {
     let command = read_words(alloc, words)?;
     let bytes = read_input(alloc, input)?;
@@ -100,7 +99,7 @@ pub fn run_script<S: Worlds, W: Write>(
 ) -> Result<(), Fault>
     ensures ran { OnOk result (HasRun S.begins S.keeps S.Chains.known script (W.contents output.old) (W.contents output.new)) }
     ensures stopped { OnErr result (Keeps (W.contents output.old) (W.contents output.new) ⊎ HasBegun S.begins S.Chains.known script (W.contents output.old) (W.contents output.new)) }
-    ensures faults { IfErr result (λ fault. IsRunFault fault ⊎ ((fault ≡ Fault.BadScript) × (output.new ≡ output.old))) }
+    ensures faults { IfErr result (IsFaultOfRun output.old output.new) }
 {
     match worlds.begin(&script.genesis) {
         Ok(chains) => run_on(alloc, worlds, chains, script, output),
@@ -144,9 +143,9 @@ fn race_script<Q: Races, W: Write>(
 ) -> Result<(), Fault>
     requires may { Q.may_race races.now }
     requires few { 1 ≤ relayers × relayers ≤ 8 }
-    ensures raced { OnOk result (HasRaced Q.raced script (W.contents output.old) (W.contents output.new)) }
-    ensures stopped { OnErr result (Keeps (W.contents output.old) (W.contents output.new) ⊎ HasRacedInPart Q.raced script (W.contents output.old) (W.contents output.new)) }
-    ensures faults { IfErr result (λ fault. IsRunFault fault ⊎ ((fault ≡ Fault.BadScript) × (output.new ≡ output.old))) }
+    ensures raced { OnOk result (PrintsRace Q.raced script W.contents output.old output.new) }
+    ensures stopped { OnErr result (PrintsRaceInPart Q.raced script W.contents output.old output.new) }
+    ensures faults { IfErr result (IsFaultOfRun output.old output.new) }
 {
     let names = copy_of(&script.names);
     let race = Race::new(alloc, script);
@@ -168,7 +167,7 @@ fn print_race<W: Write>(
     audited: &RaceAudit,
     output: &mut W,
 ) -> Result<(), Fault>
-    ensures written { WritesText result (W.contents output.old) (W.contents output.new) (audit_text names.now audited.now) }
+    ensures written { Emits W.contents result output.old output.new (audit_text names.now audited.now) }
     ensures faults { IfErr result IsRunFault }
 {
     flush_after(print_audited(alloc, names, audited, output), output)
@@ -181,7 +180,7 @@ fn print_audited<W: Write>(
     audited: &RaceAudit,
     output: &mut W,
 ) -> Result<(), Fault>
-    ensures written { WritesText result (W.contents output.old) (W.contents output.new) (audit_text names.now audited.now) }
+    ensures written { Emits W.contents result output.old output.new (audit_text names.now audited.now) }
     ensures faults { IfErr result IsRunFault }
 {
     print_all_balances(alloc, names, audited, output)?;
@@ -195,7 +194,7 @@ fn print_all_balances<W: Write>(
     audited: &RaceAudit,
     output: &mut W,
 ) -> Result<(), Fault>
-    ensures written { WritesText result (W.contents output.old) (W.contents output.new) (audited_balance_lines names.now audited.now 0 (length names.now)) }
+    ensures written { Emits W.contents result output.old output.new (all_held names.now audited.now) }
     ensures faults { IfErr result IsRunFault }
 {
     for on in 0..names.len() {
@@ -211,7 +210,7 @@ fn print_all_notes<W: Write>(
     audited: &RaceAudit,
     output: &mut W,
 ) -> Result<(), Fault>
-    ensures written { WritesText result (W.contents output.old) (W.contents output.new) (audited_note_lines names.now audited.now 0 (length names.now)) }
+    ensures written { Emits W.contents result output.old output.new (all_noted names.now audited.now) }
     ensures faults { IfErr result IsRunFault }
 {
     for on in 0..names.len() {
@@ -238,7 +237,7 @@ fn print_balances_of<W: Write>(
     on: usize,
     output: &mut W,
 ) -> Result<(), Fault>
-    ensures written { WritesText result (W.contents output.old) (W.contents output.new) (balance_lines name.now (audited_balances audited.now on)) }
+    ensures written { Emits W.contents result output.old output.new (held_on name.now audited.now on) }
     ensures faults { IfErr result IsRunFault }
 {
     match audited.balances.get(on) {
@@ -255,7 +254,7 @@ fn print_notes_of<W: Write>(
     on: usize,
     output: &mut W,
 ) -> Result<(), Fault>
-    ensures written { WritesText result (W.contents output.old) (W.contents output.new) (note_lines name.now (audited_notes audited.now on)) }
+    ensures written { Emits W.contents result output.old output.new (note_on name.now audited.now on) }
     ensures faults { IfErr result IsRunFault }
 {
     match audited.notes.get(on) {

@@ -4,7 +4,7 @@ ghost use Rattle.std.specs.Prelude.{◌≡◌, ◌∷◌, ◌≤◌, [], List, l
 ghost use Rattle.ibc_script.specs.Faults.{IsRunFault};
 ghost use Rattle.ibc_script.specs.declared.event_kind.EventKind.{EventKind as Kind};
 ghost use Rattle.ibc_script.specs.EventKinds.{draft_kind};
-ghost use Rattle.ibc_script_cli.specs.Runs.{Ends, EndsBy, IsTold, Runs, RunsTo, Submits, WritesText, acts_of, answer_line, asking_acts, given_by, name_of, opened};
+ghost use Rattle.ibc_script_cli.specs.Runs.{Emits, Ends, EndsBy, IsTold, Runs, RunsTo, Submits, acts_of, answer_line, asking_acts, given_by, name_of, opened};
 ghost use Rattle.ibc_script_cli.specs.Runs.Act.{Open, Take};
 ghost use Rattle.ibc_script_cli.specs.Opening.{turns_of_open};
 ghost use Rattle.ibc_script_cli.specs.declared.opening.HandshakeSide.{HandshakeSide as Side};
@@ -114,7 +114,7 @@ impl<'n> Runner<'n> {
         answer: &Option<Reply>,
         output: &mut W,
     ) -> Result<(), Fault>
-        ensures written { WritesText result (W.contents output.old) (W.contents output.new) (answer_line self.now.names.now on kind answer.now) }
+        ensures written { Emits W.contents result output.old output.new (answer_line self.now.names.now on kind answer.now) }
         ensures faults { IfErr result IsRunFault }
     {
         let chain = self.name(on);
@@ -133,7 +133,7 @@ impl<'n> Runner<'n> {
         answer: Option<Reply>,
         output: &mut W,
     ) -> Result<Option<Effect>, Fault>
-        ensures written { WritesText result (W.contents output.old) (W.contents output.new) (answer_line self.now.names.now on kind answer) }
+        ensures written { Emits W.contents result output.old output.new (answer_line self.now.names.now on kind answer) }
         ensures given { IfOk result (λ given. given ≡ given_by answer) }
         ensures faults { IfErr result IsRunFault }
     {

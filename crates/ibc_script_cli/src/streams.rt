@@ -1,8 +1,9 @@
 //! The input and the output of the program.
 
-ghost use Rattle.std.specs.Prelude.{◌≡◌, ◌≢◌, ◌⊎◌, ◌↔◌, ◌++◌, codes, take, IfOk, IfErr, IfSome, IsOkUnless};
+ghost use Rattle.std.specs.Prelude.{◌≡◌, ◌≢◌, ◌⊎◌, ◌↔◌, ◌++◌, codes, IfOk, IfErr, IsOkUnless};
 ghost use Rattle.std.specs.IoError.{error_kind};
-ghost use Rattle.ibc_script_cli.specs.Runs.{WritesText};
+ghost use Rattle.ibc_script_cli.specs.Program.{IsReadOf};
+ghost use Rattle.ibc_script_cli.specs.Runs.{Emits};
 
 use ibc_script::{Fault, MOST_BYTES};
 use std::alloc::Global;
@@ -24,7 +25,7 @@ fn read_fault(error: &io::Error) -> Fault
 /// The bytes of the input, at most one more than a script may have. Faults: `CannotRead` where the reader fails for
 /// another cause than memory, `NoMemory`.
 pub fn read_input<R: Read + Drop>(alloc: Global, input: R) -> Result<Vec<u8>, Fault>
-    ensures bytes { IfOk result (λ bytes. IfSome (R.remaining input) (λ known. bytes.items ≡ take 1048577 known)) }
+    ensures bytes { IfOk result (IsReadOf (R.remaining input)) }
     ensures faults { IfErr result (λ fault. (fault ≡ Fault.CannotRead) ⊎ (fault ≡ Fault.NoMemory)) }
 {
     let mut bytes = Vec::new(alloc);
@@ -36,7 +37,7 @@ pub fn read_input<R: Read + Drop>(alloc: Global, input: R) -> Result<Vec<u8>, Fa
 
 // Writes bytes. Fault: `CannotWrite`, also where the writer takes none; a beginning of the bytes is written then.
 fn write_bytes<W: Write>(output: &mut W, bytes: &[u8]) -> Result<(), Fault>
-    ensures written { WritesText result (W.contents output.old) (W.contents output.new) bytes.now }
+    ensures written { Emits W.contents result output.old output.new bytes.now }
     ensures fault { IsOkUnless result Fault.CannotWrite }
 {
     let mut rest = bytes;
@@ -56,7 +57,7 @@ fn write_bytes<W: Write>(output: &mut W, bytes: &[u8]) -> Result<(), Fault>
 
 /// Writes a line and a line feed. Fault: `CannotWrite`; a beginning of them is written then.
 pub fn write_line<W: Write>(output: &mut W, line: &str) -> Result<(), Fault>
-    ensures written { WritesText result (W.contents output.old) (W.contents output.new) (line.now ++ codes "\n") }
+    ensures written { Emits W.contents result output.old output.new (line.now ++ codes "\n") }
     ensures fault { IsOkUnless result Fault.CannotWrite }
 {
     write_bytes(output, line.as_bytes())?;

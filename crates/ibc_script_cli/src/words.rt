@@ -1,8 +1,8 @@
 //! The words of the program.
 
-ghost use Rattle.std.specs.Prelude.{◌≡◌, ◌≢◌, ◌⊎◌, ◌↔◌, map, true, false, Some, option_and_then, option_map, IfOk, IfErr, IsErrOf, IsOkUnless};
+ghost use Rattle.std.specs.Prelude.{◌≡◌, ◌≢◌, ◌⊎◌, ◌↔◌, false, option_and_then, option_map, IfOk, IfErr, IsErrOf, IsOkUnless};
 ghost use Rattle.clap.specs.Words.{app_of, kind_of, rule_of, subcommand_rows_of};
-ghost use Rattle.ibc_script_cli.specs.Words.{IsPossible, are_words, command_by, command_in, command_of, ibcworld, relayers_of, relayers_rule};
+ghost use Rattle.ibc_script_cli.specs.Words.{AskFor, AskForNothing, IsPossible, command_by, command_in, ibcworld, relayers_of, relayers_rule};
 
 use clap::error::ErrorKind;
 use clap::{Arg, ArgAction, ArgMatches, Command as Parser, Error};
@@ -87,9 +87,9 @@ fn command_of(found: &ArgMatches<'_>) -> Option<Command>
 /// What the words after the program's name ask for. Faults: `BadArguments` exactly where they ask for nothing that the
 /// program does, as for help; `NoMemory`.
 pub fn read_words<'a>(alloc: Global, words: &'a [&'a str]) -> Result<Command, Fault>
-    ensures asked { IfOk result (λ command. command_of (map (λ word. word.now) words.entry.now) ≡ Some command) }
+    ensures asked { IfOk result (AskFor words.entry.now) }
     ensures relayers { IfOk result IsPossible }
-    ensures bad { IsErrOf result Fault.BadArguments → are_words (map (λ word. word.now) words.entry.now) ≡ false }
+    ensures bad { IsErrOf result Fault.BadArguments → AskForNothing words.entry.now }
     ensures faults { IfErr result (λ fault. (fault ≡ Fault.BadArguments) ⊎ (fault ≡ Fault.NoMemory)) }
 {
     let parser = parser(alloc)?;

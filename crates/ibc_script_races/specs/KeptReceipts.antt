@@ -1,5 +1,6 @@
 -- The receipts that the main thread of a race keeps.
 use Rattle.std.specs.Prelude.{◌≡◌, ◌<◌, ◌≤◌, ℕ, List, Option, None, Some, slice_get}
+use Rattle.std.specs.Borrow.{Bor}
 use Rattle.std.specs.List.{All}
 use Rattle.ibc_ids.specs.declared.refusal.Refusal.TheVariants.{NoMemory}
 use Rattle.ibc_machine.specs.declared.reply.Reply.TheVariants as reply
@@ -10,6 +11,10 @@ use Rattle.ibc_ledger_lock.specs.ReceiptsAndReadings.{IsBehind, ReceiptModel}
 -- what a receipt tells of what happened
 abbrev pub told_by : ReceiptModel → Happened
 told_by told = (told.event, told.reply)
+
+-- the chain has this number, and stands at its number's place
+abbrev pub IsAtItsPlace : List ℕ → ℕ → Bor ℕ → Type 0
+IsAtItsPlace numbers number = λ chain. (chain.now ≡ number) × (slice_get numbers number ≡ Some number)
 
 -- the receipt is of its event's chain, which stands at its number's place among the chains, and memory didn't run out
 pub record IsKept (numbers : List ℕ) (told : ReceiptModel) : Type 0 where

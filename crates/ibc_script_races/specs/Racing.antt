@@ -1,5 +1,5 @@
 -- What a race comes to.
-use Rattle.std.specs.Prelude.{◌≡◌, ◌⊎◌, List, [], ◌∷◌, ◌++◌, None, slice_get}
+use Rattle.std.specs.Prelude.{◌≡◌, ◌⊎◌, List, [], ◌∷◌, ◌++◌, None, slice_get, map, IfOk, Result}
 use Rattle.std.specs.List.{All, flat_map}
 use Rattle.std.specs.Option.{IsSomeAnd}
 use Rattle.ibc_ids.specs.Texts.{Text}
@@ -12,11 +12,13 @@ use Rattle.ibc_machine.specs.ledger.Ledgers.{chain_of}
 use Rattle.ibc_machine.specs.promises.Histories.{Happened, history_of}
 use Rattle.ibc_ledger.specs.LedgerModel.{LedgerModel}
 use Rattle.ibc_ledger.specs.SentPackets.{happened_on}
+use Rattle.ibc_ledger_lock.specs.ReceiptsAndReadings.{ReceiptModel}
 use Rattle.ibc_world_core.specs.EveryAudit.{AreLawful}
 use Rattle.ibc_script.specs.declared.script.Step.{Step}
 use Rattle.ibc_script_cli.specs.Runs.{Act, Reached, asking_acts}
 use Rattle.ibc_script_cli.specs.ScriptChains.{ScriptChains, any_answers}
 use Rattle.ibc_script_cli.specs.declared.racing.RaceAudit.{RaceAudit}
+use Rattle.ibc_script_races.specs.KeptReceipts.{told_by}
 
 -- the main thread asked for an event and got the reply, which isn't that memory ran out
 abbrev pub IsAsked : List Happened → Event → Reply → List Happened → Type 0
@@ -30,9 +32,17 @@ raced_chains = record { asked = IsAsked; answers = λ _. any_answers }
 abbrev pub Takes : List Text → List Act → List Happened → List Happened → Type 0
 Takes names acts old new = Reached raced_chains names acts old None [] new None
 
+-- it did all that a script's steps ask for
+abbrev pub TakesAll : List Text → List Step → List Happened → List Happened → Type 0
+TakesAll names steps old new = Takes names (flat_map asking_acts steps) old new
+
 -- It took all steps of a script that ask. This is what they asked and were answered, in order.
 abbrev pub AreTaken : List Step → List Happened → Type 0
 AreTaken steps asked = (names : List Text) × Takes names (flat_map asking_acts steps) [] asked
+
+-- whatever steps these receipts are of, this is so of them and of the result
+abbrev pub ForTakenSteps : {T E : Type 0} → (List Step → T → Type 0) → List ReceiptModel → Result T E → Type 0
+ForTakenSteps fact receipts result = (steps : List Step) → AreTaken steps (map told_by receipts) → IfOk result (fact steps)
 
 -- The elements of the first list stand in the second one, in their order: both begin with the same element, or the second has
 -- all of them behind its first.

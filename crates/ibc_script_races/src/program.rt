@@ -1,11 +1,9 @@
 //! The program, without the streams of its process.
 
-ghost use Rattle.std.specs.Prelude.{◌≡◌, ◌⊎◌, ℕ, map, true, false, Some, Err, IfErr, IfOk, IsErrOf, OnErr, OnOk};
-ghost use Rattle.std.specs.Io.KnownBytes.{Keeps};
+ghost use Rattle.std.specs.Prelude.{◌≡◌, ◌⊎◌, ℕ, IfErr, IfOk, IsErrOf, OnErr, OnOk};
 ghost use Rattle.ibc_script.specs.Faults.{IsRunFault};
-ghost use Rattle.ibc_script.specs.declared.script.Script.{Script as AnyScript};
-ghost use Rattle.ibc_script_cli.specs.Program.{HasBegun, HasRaced, HasRacedInPart, HasRun, IsInput};
-ghost use Rattle.ibc_script_cli.specs.Words.{are_words, command_of};
+ghost use Rattle.ibc_script_cli.specs.Program.{HasBegunInput, HasRacedInput, HasRacedInputInPart, HasRunInput, RefusesWords};
+ghost use Rattle.ibc_script_cli.specs.Words.{AskFor, AskForNothing, AskForSomething};
 ghost use Rattle.ibc_script_cli.specs.declared.words.Command.TheVariants as Asked;
 ghost use Rattle.ibc_world_core.specs.EveryWorld.{IsLawfulUnlessClash};
 ghost use Rattle.ibc_script_races.specs.Racing.{IsRaceOf};
@@ -34,14 +32,14 @@ pub fn drive_on_ledgers<R: Threads + Wait + Sync, I: Read + Drop, W: Write>(
     input: I,
     output: &mut W,
 ) -> Result<(), Fault>
-    ensures asked { IfOk result (λ _. are_words (map (λ word. word.now) words.now) ≡ true) }
-    ensures bad_arguments { IsErrOf result Fault.BadArguments → are_words (map (λ word. word.now) words.now) ≡ false }
-    ensures words_first { are_words (map (λ word. word.now) words.now) ≡ false → (result ≡ Err Fault.BadArguments) ⊎ (result ≡ Err Fault.NoMemory) }
+    ensures asked { IfOk result (λ _. AskForSomething words.now) }
+    ensures bad_arguments { IsErrOf result Fault.BadArguments → AskForNothing words.now }
+    ensures words_first { AskForNothing words.now → RefusesWords result }
     ensures unwritten { IfErr result (λ fault. IsRunFault fault ⊎ (output.new ≡ output.old)) }
-    ensures lines { command_of (map (λ word. word.now) words.now) ≡ Some Asked.Run → OnOk result ((script : AnyScript) × IsInput (I.remaining input) script × HasRun IsNewWorld IsLawfulUnlessClash world_chains script (W.contents output.old) (W.contents output.new)) }
-    ensures begun { command_of (map (λ word. word.now) words.now) ≡ Some Asked.Run → OnErr result (Keeps (W.contents output.old) (W.contents output.new) ⊎ ((script : AnyScript) × IsInput (I.remaining input) script × HasBegun IsNewWorld world_chains script (W.contents output.old) (W.contents output.new))) }
-    ensures race_lines { (relayers : ℕ) → command_of (map (λ word. word.now) words.now) ≡ Some (Asked.Race relayers) → OnOk result ((script : AnyScript) × IsInput (I.remaining input) script × HasRaced IsRaceOf script (W.contents output.old) (W.contents output.new)) }
-    ensures race_begun { (relayers : ℕ) → command_of (map (λ word. word.now) words.now) ≡ Some (Asked.Race relayers) → OnErr result (Keeps (W.contents output.old) (W.contents output.new) ⊎ ((script : AnyScript) × IsInput (I.remaining input) script × HasRacedInPart IsRaceOf script (W.contents output.old) (W.contents output.new))) }
+    ensures lines { AskFor words.now Asked.Run → OnOk result (HasRunInput IsNewWorld IsLawfulUnlessClash world_chains (I.remaining input) (W.contents output.old) (W.contents output.new)) }
+    ensures begun { AskFor words.now Asked.Run → OnErr result (HasBegunInput IsNewWorld world_chains (I.remaining input) (W.contents output.old) (W.contents output.new)) }
+    ensures race_lines { (relayers : ℕ) → AskFor words.now (Asked.Race relayers) → OnOk result (HasRacedInput IsRaceOf (I.remaining input) (W.contents output.old) (W.contents output.new)) }
+    ensures race_begun { (relayers : ℕ) → AskFor words.now (Asked.Race relayers) → OnErr result (HasRacedInputInPart IsRaceOf (I.remaining input) (W.contents output.old) (W.contents output.new)) }
 {
     let worlds = WorldFactory::new(alloc);
     let races = RaceRunner::new(rt, alloc);

@@ -1,15 +1,13 @@
 //! Races on the chains of a world that threads share.
 
-ghost use Rattle.std.specs.Prelude.{◌≡◌, ◌⊎◌, ◌≤◌, [], List, All, IfErr, IfOk, OnOk, length, map};
-ghost use Rattle.std.specs.List.{flat_map};
+ghost use Rattle.std.specs.Prelude.{◌≡◌, ◌⊎◌, ◌≤◌, [], All, IfErr, IfOk, OnOk, length, map};
 ghost use denote.Param.Send.{IsSync};
 ghost use Rattle.ibc_script.specs.Faults.{IsScriptFault, IsRunFault};
-ghost use Rattle.ibc_script.specs.declared.script.Step.{Step as TakenStep};
 ghost use Rattle.ibc_script_cli.specs.Runs.{asking_acts};
 ghost use Rattle.ibc_machine.specs.chain.Genesis.{genesis_state};
 ghost use Rattle.ibc_race.specs.SharedWorlds.{HasItsBook};
 ghost use Rattle.ibc_script_races.specs.KeptReceipts.{AreKept, told_by};
-ghost use Rattle.ibc_script_races.specs.Racing.{AreTaken, IsRaceOf, Takes};
+ghost use Rattle.ibc_script_races.specs.Racing.{AreTaken, ForTakenSteps, IsRaceOf, Takes, TakesAll};
 
 use crate::sharing::Shared;
 use ibc_ledger::Ledger;
@@ -170,7 +168,7 @@ fn take_each<R: Threads + Wait + Sync, W: WorldBrand + Send + Sync>(
     steps: Vec<Step>,
 ) -> Result<(), Fault>
     requires few { 1 ≤ relayers × relayers ≤ 8 }
-    ensures taken { OnOk result (Takes runner.now.names.now (flat_map asking_acts steps.items) shared.old shared.new) }
+    ensures taken { OnOk result (TakesAll runner.now.names.now steps.items shared.old shared.new) }
     ensures faults { IfErr result IsRunFault }
 {
     for step in steps {
@@ -214,7 +212,7 @@ fn audited<W: WorldBrand>(
     receipts: Vec<Receipt<W>>,
 ) -> Result<RaceAudit, Fault>
     requires { AreKept chains.items receipts.items }
-    ensures raced { (steps : List TakenStep) → AreTaken steps (map told_by receipts.items) → IfOk result (IsRaceOf W.genesis steps) }
+    ensures raced { ForTakenSteps (IsRaceOf W.genesis) receipts.items result }
     ensures faults { IfErr result IsScriptFault }
 {
     let readings = Vec::new(alloc);

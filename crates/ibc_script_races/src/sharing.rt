@@ -1,11 +1,11 @@
 //! Chains that threads share, as the steps of a script see them.
 
-ghost use Rattle.std.specs.Prelude.{◌≡◌, ◌≤◌, ◌++◌, ◌∷◌, [], IfSome, IsOkUnless, OnErr, OnOk, IfOk, Some, map, option_map, slice_get, true};
+ghost use Rattle.std.specs.Prelude.{◌≡◌, ◌≤◌, ◌++◌, ◌∷◌, [], IfSome, IsOkUnless, OnErr, OnOk, IfOk, map, option_map, true};
 ghost use Rattle.ibc_ids.specs.declared.refusal.Refusal.TheVariants.{NoMemory};
 ghost use Rattle.ibc_machine.specs.declared.reply.Reply.TheVariants as answer;
 ghost use Rattle.ibc_machine.specs.ledger.Ledgers.{chain_of};
 ghost use Rattle.ibc_ledger_lock.specs.ReceiptsAndReadings.{IsBehind, IsReceiptOf};
-ghost use Rattle.ibc_script_races.specs.KeptReceipts.{AreInOrder, AreKept, IsLastOf, told_by};
+ghost use Rattle.ibc_script_races.specs.KeptReceipts.{AreInOrder, AreKept, IsAtItsPlace, IsLastOf, told_by};
 ghost use Rattle.ibc_script_races.specs.Racing.{raced_chains};
 
 use ibc_ids::{Bytes, ChannelId, Key, PortId, Refusal};
@@ -118,7 +118,7 @@ fn number_of(event: &Event) -> u8
 
 /// The chain of a number, none where it doesn't stand at its number's place.
 pub fn chain_at<W: WorldBrand>(chains: &[Chain<W>], number: u8) -> Option<&Chain<W>>
-    ensures { IfSome result (λ chain. (chain.now ≡ number) × (slice_get chains.now number ≡ Some number)) }
+    ensures { IfSome result (IsAtItsPlace chains.now number) }
 {
     let chain = chains.get(usize::from(number))?;
     if chain.number() == number {

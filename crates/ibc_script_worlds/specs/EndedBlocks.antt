@@ -1,5 +1,5 @@
 -- The blocks that a history tells the ends of: each entry of an accepted block has its height, its root and the next time.
-use Rattle.std.specs.Prelude.{◌≡◌, ◌⊎◌, ◌<◌, ◌≤◌, ◌+◌, ◌-◌, ℕ, zero, suc, nat_lt, true, false, List, [], ◌∷◌, length, map, slice_get, Option, None, Some, ⊤}
+use Rattle.std.specs.Prelude.{◌≡◌, ◌⊎◌, ◌<◌, ◌≤◌, ◌+◌, ◌-◌, ℕ, zero, suc, nat_lt, true, false, List, [], ◌∷◌, length, map, slice_get, Option, None, Some, MatchOption, ⊤}
 use Rattle.ibc_machine.specs.declared.entry.Entry.{Entry}
 use Rattle.ibc_machine.specs.declared.event.Event.{Event}
 use Rattle.ibc_machine.specs.declared.event.Event.TheVariants as event
@@ -11,6 +11,7 @@ use Rattle.ibc_machine.specs.ledger.Replay.{StampedEntry}
 use Rattle.ibc_ledger.specs.LedgerModel.{abstract_entry}
 use Rattle.ibc_ledger.specs.declared.entry.StampedEntry.{StampedEntry as KeptEntry}
 use Rattle.ibc_script_cli.specs.declared.chains.CommittedBlock.{CommittedBlock}
+use Rattle.ibc_script_worlds.specs.declared.blocks.ChainStarts.{ChainStarts}
 use Rattle.ibc_script_worlds.specs.declared.blocks.EndedBlock.{EndedBlock}
 use Rattle.ibc_script_worlds.specs.declared.blocks.Search.{Search}
 use Rattle.ibc_script_worlds.specs.declared.blocks.Search.TheVariants as step
@@ -59,6 +60,19 @@ told_at (suc k) blocks = slice_get blocks k
 -- the same, where the height is one of the last so many
 abbrev pub kept_told : ℕ → ℕ → List CommittedBlock → Option CommittedBlock
 kept_told window height blocks = elim (nat_lt (length blocks - window) height) [ true ↦ told_at height blocks | false ↦ None ]
+
+-- the heights that a history tells the ends of are counted from 1
+abbrev pub IsCounted : List KeptEntry → Type 0
+IsCounted history = AreCountedFrom 1 (ends_of history)
+
+-- the blocks of a chain that began at a time, by its history
+abbrev pub told_blocks : ℕ → List KeptEntry → List CommittedBlock
+told_blocks time history = blocks_told time (ends_of history)
+
+-- the block of a height that a chain keeps, by how it began and by its history; none where there is no such chain
+abbrev pub IsBlockSince : ChainStarts → ℕ → ℕ → List KeptEntry → Option CommittedBlock → Type 0
+IsBlockSince starts chain height history found =
+    MatchOption (slice_get starts.times.items chain) (found ≡ None) (λ time. found ≡ kept_told starts.window height (told_blocks time history))
 
 -- ---- places in a history
 

@@ -1,5 +1,7 @@
 -- The chains of a script as a world: how it goes on by an event, and what its ledgers have at a look.
 use Rattle.std.specs.Prelude.{◌≡◌, ◌⊎◌, ℕ, List, [], map, slice_get, Option, Some, option_map, option_and_then, Result, Ok, Err, IfOk, IfErr}
+use Rattle.std.specs.Borrow.{Bor}
+use Rattle.std.specs.Global.{Vec}
 use Rattle.std.specs.Option.{option_map_or}
 use Rattle.ibc_ids.specs.Maps.{at}
 use Rattle.ibc_ids.specs.Paths.{path}
@@ -17,6 +19,7 @@ use Rattle.ibc_machine.specs.ics24.Image.{core_root, image}
 use Rattle.ibc_machine.specs.ledger.Ledgers.{Ledger, machine_of, state_of}
 use Rattle.ibc_machine.specs.promises.Totals.{totals}
 use Rattle.ibc_wire.specs.declared.messages.Message.{Message}
+use Rattle.ibc_ledger.specs.LedgerModel.{LedgerModel}
 use Rattle.ibc_ledger.specs.ReplayedState.{provable_block}
 use Rattle.ibc_ledger.specs.SentPackets.{ack_on, packet_on}
 use Rattle.ibc_refinement.specs.Steps.{IsStep}
@@ -70,6 +73,14 @@ abbrev pub plans_of : Option Ledger → Option Ledger → List Message × List M
 plans_of (Some first) (Some second) =
     (plan (view_of_ledger first) (view_of_ledger second), plan (view_of_ledger second) (view_of_ledger first))
 plans_of _ _ = ([], [])
+
+-- the ledger behind a reference, where there is one
+abbrev pub ledger_behind : Option (Bor LedgerModel) → Option Ledger
+ledger_behind held = option_map (λ ledger. ledger.now.ledger) held
+
+-- the messages that are owed two ledgers behind references
+abbrev pub ArePlansOf : Option (Bor LedgerModel) → Option (Bor LedgerModel) → Vec Message × Vec Message → Type 0
+ArePlansOf first second = λ plans. (plans.0.items, plans.1.items) ≡ plans_of (ledger_behind first) (ledger_behind second)
 
 -- what the world tells of a channel, or that memory ran out
 abbrev pub TellsTotals : WorldState → ℕ → Text → Text → Result Totals Refusal → Type 0

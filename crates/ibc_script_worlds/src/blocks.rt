@@ -1,8 +1,8 @@
 //! What a ledger's history tells of the blocks that its chain committed.
 
-ghost use Rattle.std.specs.Prelude.{◌≡◌, ◌<◌, ◌≤◌, IfOk, IfSome, MatchOption, None, length, slice_get, take};
+ghost use Rattle.std.specs.Prelude.{◌≡◌, ◌<◌, ◌≤◌, IfOk, IfSome, length, take};
 ghost use Rattle.ibc_machine.specs.chain.Genesis.{genesis_state};
-ghost use Rattle.ibc_script_worlds.specs.EndedBlocks.{AreCountedFrom, EndNoneIn, IsLastIn, IsNarrowed, IsPlaceOf, block_given, blocks_told, ended_by, ends_of, kept_told, time_after, told_at};
+ghost use Rattle.ibc_script_worlds.specs.EndedBlocks.{EndNoneIn, IsBlockSince, IsCounted, IsLastIn, IsNarrowed, IsPlaceOf, block_given, ended_by, ends_of, kept_told, time_after, told_at, told_blocks};
 ghost use Rattle.ibc_script_worlds.specs.WorldChains.{AreStartsOf};
 
 use ibc_ids::Root;
@@ -37,7 +37,7 @@ impl ChainStarts {
     /// kept. The heights that such a history tells of rise by one from 1, so the block is looked for by halves, up to the end of
     /// the last one.
     pub fn block(&self, chain: u8, history: &[StampedEntry], height: u64) -> Option<CommittedBlock>
-        ensures { AreCountedFrom 1 (ends_of history.now) → MatchOption (slice_get self.now.times.items chain) (result ≡ None) (λ time. result ≡ kept_told self.now.window height (blocks_told time (ends_of history.now))) }
+        ensures { IsCounted history.now → IsBlockSince self.now chain height history.now result }
     {
         match self.times.get(usize::from(chain)) {
             Some(start) => kept_block(*start, self.window, history, height),
@@ -128,7 +128,7 @@ fn narrowed(history: &[StampedEntry], low: usize, high: usize, height: u64) -> S
 fn ended_at(history: &[StampedEntry], limit: usize, height: u64) -> Option<(usize, EndedBlock)>
     requires { limit ≤ length history.now }
     ensures there { IfSome result (λ found. found.0 < limit) }
-    ensures place { AreCountedFrom 1 (ends_of history.now) → IsPlaceOf (ends_of history.now) limit height result }
+    ensures place { IsCounted history.now → IsPlaceOf (ends_of history.now) limit height result }
 {
     let mut low = 0;
     let mut high = limit;
@@ -163,7 +163,7 @@ fn block_at(
     height: u64,
 ) -> Option<CommittedBlock>
     requires { limit ≤ length history.now }
-    ensures { AreCountedFrom 1 (ends_of history.now) → EndNoneIn (ends_of history.now) limit (length history.now) → result ≡ told_at height (blocks_told start (ends_of history.now)) }
+    ensures { IsCounted history.now → EndNoneIn (ends_of history.now) limit (length history.now) → result ≡ told_at height (told_blocks start history.now) }
 {
     match ended_at(history, limit, height) {
         Some((place, block)) => Some(CommittedBlock {
@@ -181,7 +181,7 @@ fn kept_block(
     history: &[StampedEntry],
     height: u64,
 ) -> Option<CommittedBlock>
-    ensures { AreCountedFrom 1 (ends_of history.now) → result ≡ kept_told window height (blocks_told start (ends_of history.now)) }
+    ensures { IsCounted history.now → result ≡ kept_told window height (told_blocks start history.now) }
 {
     let (place, last) = last_ended(history, 0, history.len())?;
     if height <= last.height.saturating_sub(window) || height > last.height {

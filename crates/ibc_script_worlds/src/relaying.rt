@@ -2,8 +2,7 @@
 
 ghost use Rattle.std.specs.Prelude.{◌≡◌, IfOk, IsOkUnless};
 ghost use Rattle.ibc_ids.specs.declared.refusal.Refusal.TheVariants.{NoMemory};
-ghost use Rattle.ibc_machine.specs.ics18.Relay as relay;
-ghost use Rattle.ibc_script_worlds.specs.Relaying.{view_of_ledger};
+ghost use Rattle.ibc_script_worlds.specs.Relaying.{plan_between};
 
 use ibc_ids::Refusal;
 use ibc_ledger::Ledger;
@@ -18,8 +17,8 @@ pub fn plans_between(
     first: &Ledger,
     second: &Ledger,
 ) -> Result<(Vec<Message>, Vec<Message>), Refusal>
-    ensures second { IfOk result (λ plans. plans.0.items ≡ relay.plan (view_of_ledger first.now.ledger) (view_of_ledger second.now.ledger)) }
-    ensures first { IfOk result (λ plans. plans.1.items ≡ relay.plan (view_of_ledger second.now.ledger) (view_of_ledger first.now.ledger)) }
+    ensures second { IfOk result (λ plans. plans.0.items ≡ plan_between first.now second.now) }
+    ensures first { IfOk result (λ plans. plans.1.items ≡ plan_between second.now first.now) }
     ensures err { IsOkUnless result NoMemory }
 {
     let first = first.view()?;

@@ -1,10 +1,10 @@
 //! Worlds, as the steps of a script see them.
 
-ghost use Rattle.std.specs.Prelude.{◌≡◌, IfOk, option_map};
+ghost use Rattle.std.specs.Prelude.{◌≡◌, IfOk};
 ghost use Rattle.ibc_machine.specs.ledger.Ledgers.{state_of};
 ghost use Rattle.ibc_machine.specs.promises.Worlds.{AreLedgersOf};
 ghost use Rattle.ibc_world_core.specs.EveryWorld.{IsLawfulUnlessClash};
-ghost use Rattle.ibc_script_worlds.specs.WorldChains.{AreStartsOf, IsNewWorld, block_in, plans_of, proof_in, world_chains};
+ghost use Rattle.ibc_script_worlds.specs.WorldChains.{ArePlansOf, AreStartsOf, IsNewWorld, block_in, proof_in, world_chains};
 
 use crate::blocks::ChainStarts;
 use crate::relaying::plans_between;
@@ -225,7 +225,7 @@ fn plans_if_there(
     first: Option<&Ledger>,
     second: Option<&Ledger>,
 ) -> Result<(Vec<Message>, Vec<Message>), Refusal>
-    ensures { IfOk result (λ plans. (plans.0.items, plans.1.items) ≡ plans_of (option_map (λ ledger. ledger.now.ledger) first.entry) (option_map (λ ledger. ledger.now.ledger) second.entry)) }
+    ensures { IfOk result (ArePlansOf first.entry second.entry) }
 {
     match (first, second) {
         (Some(first), Some(second)) => plans_between(alloc, first, second),

@@ -1,12 +1,11 @@
 //! Scripts are run with relayers that work at the same time.
 
 ghost use Rattle.std.specs.Prelude.{◌≡◌, ◌≤◌, [], All, IfOk, OnOk, length};
-ghost use Rattle.std.specs.List.{flat_map};
 ghost use Rattle.ibc_machine.specs.chain.Genesis.{genesis_state};
 ghost use Rattle.ibc_ledger_lock.specs.ReceiptsAndReadings.{HasAnswered, IsOfWorld};
 ghost use Rattle.ibc_race.specs.SharedWorlds.{HasItsBook};
 ghost use Rattle.ibc_script_cli.specs.Runs.{asking_acts};
-ghost use Rattle.ibc_script_races.specs.Racing.{Takes};
+ghost use Rattle.ibc_script_races.specs.Racing.{Takes, TakesAll};
 ghost use Rattle.ibc_sim.specs.RacedLedgers.{AreLeftBy};
 
 use ibc_ledger::Ledger;
@@ -31,7 +30,7 @@ pub fn race<R: Threads + Wait + Sync>(
     script: Script,
 ) -> Result<Vec<Ledger>, Fault>
     requires { 1 ≤ relayers × relayers ≤ 8 }
-    ensures { IfOk result (λ ledgers. AreLeftBy (genesis_state script.genesis) script.steps.items ledgers.items) }
+    ensures { IfOk result (λ it. AreLeftBy (genesis_state script.genesis) script.steps.items it.items) }
 {
     match begin(alloc, &script.genesis) {
         Ok(ledgers) => race_on::<R, Brand>(rt, alloc, relayers, ledgers, script),
@@ -86,7 +85,7 @@ fn take_all<R: Threads + Wait + Sync, W: WorldBrand + Send + Sync>(
 ) -> Result<Vec<Ledger>, Fault>
     requires few { 1 ≤ relayers × relayers ≤ 8 }
     requires names { length names.now ≤ 8 }
-    ensures { shared.entry ≡ [] → IfOk result (λ ledgers. AreLeftBy W.genesis steps.items ledgers.items) }
+    ensures { shared.entry ≡ [] → IfOk result (λ it. AreLeftBy W.genesis steps.items it.items) }
 {
     let runner = Runner::new(alloc, names);
     match take_each(relayers, &runner, &mut shared, steps) {
@@ -113,7 +112,7 @@ fn take_each<R: Threads + Wait + Sync, W: WorldBrand + Send + Sync>(
     steps: Vec<Step>,
 ) -> Result<(), Fault>
     requires { 1 ≤ relayers × relayers ≤ 8 }
-    ensures { OnOk result (Takes runner.now.names.now (flat_map asking_acts steps.items) shared.old shared.new) }
+    ensures { OnOk result (TakesAll runner.now.names.now steps.items shared.old shared.new) }
 {
     for step in steps {
         take(relayers, runner, shared, step)?;

@@ -282,7 +282,7 @@ fn race_steps<R: Threads + Wait + Sync>(
 // A script that was run, where something was found.
 fn failed(alloc: Global, seed: u64, run: WrittenRun) -> Option<FailedScript>
     ensures seed { IfSome result (λ script. script.seed ≡ seed) }
-    ensures finding { MatchOption result (run.found ≡ None) (λ script. run.found ≡ Some script.finding) }
+    ensures finding { MatchOption result (run.found ≡ None) (λ it. run.found ≡ Some it.finding) }
     ensures raced { IfSome result (λ script. script.is_raced ≡ run.is_raced) }
 {
     let WrittenRun {

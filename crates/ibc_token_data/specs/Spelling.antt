@@ -1,6 +1,7 @@
 -- The one spelling of data as it is written, piece by piece.
-use Rattle.std.specs.Prelude.{Bool, codes, List, [], ◌∷◌, ◌++◌, map, if◌then◌else◌}
+use Rattle.std.specs.Prelude.{◌≡◌, Bool, codes, List, [], ◌∷◌, ◌++◌, map, string_bytes, String, if◌then◌else◌}
 use Rattle.std.specs.List.{join_with_byte}
+use Rattle.std.specs.declared.alloc.Global.{Global}
 use Rattle.ibc_ids.specs.Texts.{Text}
 use Rattle.ibc_wire.specs.declared.token.Token.{Token}
 use Rattle.ibc_machine.specs.ics20.TokenData.{Data, member, object, token_members}
@@ -35,3 +36,7 @@ abbrev pub members_text : Bool → Data → Text
 members_text several d =
     if several then parties_text d ++ codes ",\"tokens\":[" ++ objects_text d.tokens ++ codes "]"
     else first_front d.tokens ++ parties_text d
+
+-- the text goes on with a piece
+abbrev pub AddsText : Text → String Global → String Global → Type 0
+AddsText piece before after = string_bytes after ≡ string_bytes before ++ piece

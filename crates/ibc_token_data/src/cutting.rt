@@ -5,6 +5,7 @@ ghost use Rattle.std.specs.List.{position};
 ghost use Rattle.std.specs.Ordering.{is_lt};
 ghost use Rattle.ibc_ids.specs.Texts.{same_text, text_cmp};
 ghost use Rattle.ibc_token_data.specs.Cutting.{is_quote, behind, up_to_quote, value_behind, memo_at, pair_at, parties_behind, amount_of_digits, token_at, is_row, one_cut};
+ghost use Rattle.ibc_token_data.specs.ShownParties.{shown_parties};
 
 use crate::forms::{are_parties, is_token};
 
@@ -112,7 +113,7 @@ pub(crate) struct Parties<'t> {
 
 /// The parties behind the front.
 pub(crate) fn parties_behind<'t>(front: &[u8], text: &'t [u8]) -> Option<Parties<'t>>
-    ensures { option_map (λ p. (p.memo.now, p.receiver.now, p.sender.now, p.rest.now)) result ≡ parties_behind front.now text.now }
+    ensures { option_map (λ p. shown_parties p) result ≡ parties_behind front.now text.now }
 {
     let start = behind(front, text)?;
     let (memo, rest) = memo_at(start)?;
@@ -152,7 +153,7 @@ fn pair_at(text: &[u8]) -> Option<(&[u8], &[u8], &[u8])>
 
 /// Amount and denomination of one token, and the parties up to the end of the text.
 pub(crate) fn one_cut(text: &[u8]) -> Option<(u128, &[u8], Parties<'_>)>
-    ensures { option_map (λ cut. (cut.0, cut.1.now, (cut.2.memo.now, cut.2.receiver.now, cut.2.sender.now, cut.2.rest.now))) result ≡ one_cut text.now }
+    ensures { option_map (λ cut. (cut.0, cut.1.now, shown_parties cut.2)) result ≡ one_cut text.now }
 {
     let (amount, denom, rest) = token_at(text)?;
     let parties = parties_behind(b",", rest)?;

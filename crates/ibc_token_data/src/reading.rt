@@ -3,6 +3,7 @@
 ghost use Rattle.ibc_machine.specs.ics20.TokenData.{has_several};
 ghost use Rattle.ibc_token_data.specs.AbstractData.{abstract_data};
 ghost use Rattle.ibc_token_data.specs.Cutting.{Gives, only_if, token_of, tokens_in, told_with, one_told, several_told, told_by};
+ghost use Rattle.ibc_token_data.specs.ShownParties.{shown_parties};
 
 use crate::TokenData;
 use crate::cutting::{Parties, behind, is_row, is_text, one_cut, parties_behind, token_at};
@@ -61,7 +62,7 @@ fn told_with(
     tokens: Vec<Token>,
     parties: &Parties<'_>,
 ) -> Result<TokenData, TokenDataFault>
-    ensures { Gives abstract_data result (told_with tokens.items (parties.now.memo.now, parties.now.receiver.now, parties.now.sender.now, parties.now.rest.now)) }
+    ensures { Gives abstract_data result (told_with tokens.items (shown_parties parties.now)) }
 {
     Ok(TokenData {
         tokens,

@@ -1,10 +1,11 @@
 //! The data of a packet of tokens.
 
-ghost use Rattle.std.specs.Prelude.{◌≡◌, ◌<◌, ◌^◌, IfOk, SomeIff, option_map, IsOkUnless};
+ghost use Rattle.std.specs.Prelude.{◌≡◌, IfOk, option_map, IsOkUnless};
 ghost use Rattle.ibc_ids.specs.declared.refusal.Refusal.TheVariants.{NoMemory};
-ghost use Rattle.ibc_machine.specs.ics20.TokenData.{amount_of, data_of, data_text};
+ghost use Rattle.ibc_machine.specs.ics20.TokenData.{data_of, data_text};
 ghost use Rattle.ibc_machine.specs.ics20.Transfers.{transfer_data, transfer_many_data};
 ghost use Rattle.ibc_token_data.specs.AbstractData.{abstract_data};
+ghost use Rattle.ibc_token_data.specs.FittingAmounts.{IsFittingAmount};
 
 use crate::fault::TokenDataFault;
 use crate::reading::told_by;
@@ -82,7 +83,7 @@ impl TokenData {
 
     /// How much of a denomination the packet has, or `None` where that is more than 2^128 - 1.
     pub fn amount_of(&self, denom: &Denom) -> Option<u128>
-        ensures { SomeIff result (amount_of denom.now (abstract_data self.now).tokens < 2 ^ 128) (amount_of denom.now (abstract_data self.now).tokens) }
+        ensures { IsFittingAmount result denom.now (abstract_data self.now).tokens }
     {
         amount_in(self.tokens.as_slice(), denom)
     }
@@ -90,7 +91,7 @@ impl TokenData {
 
 // How much of a denomination there is among tokens, or `None` where that is more than 2^128 - 1.
 fn amount_in(tokens: &[Token], denom: &Denom) -> Option<u128>
-    ensures { SomeIff result (amount_of denom.now tokens.now < 2 ^ 128) (amount_of denom.now tokens.now) }
+    ensures { IsFittingAmount result denom.now tokens.now }
 {
     let mut amount: u128 = 0;
     for token in tokens {

@@ -1,9 +1,9 @@
 //! The one spelling of data.
 
-ghost use Rattle.std.specs.Prelude.{◌≡◌, ◌++◌, ◌∷◌, true, false, string_bytes, IfOk, OnOk};
+ghost use Rattle.std.specs.Prelude.{◌≡◌, ◌∷◌, true, false, string_bytes, IfOk, OnOk};
 ghost use Rattle.ibc_machine.specs.ics20.TokenData.{member, object, token_members, has_several, data_text};
 ghost use Rattle.ibc_token_data.specs.AbstractData.{abstract_data};
-ghost use Rattle.ibc_token_data.specs.Spelling.{memo_front, parties_text, token_text, first_front, objects_text, behind_text, members_text};
+ghost use Rattle.ibc_token_data.specs.Spelling.{memo_front, parties_text, token_text, first_front, objects_text, behind_text, members_text, AddsText};
 
 use crate::TokenData;
 use crate::forms::has_several;
@@ -46,7 +46,7 @@ pub(crate) fn likely_length(told: &TokenData) -> usize {
 }
 
 fn push_members(text: &mut String, version: &Version, told: &TokenData) -> Result<(), AllocError>
-    ensures { OnOk result (string_bytes text.new ≡ string_bytes text.old ++ members_text (has_several version.now) (abstract_data told.now)) }
+    ensures { OnOk result (AddsText (members_text (has_several version.now) (abstract_data told.now)) text.old text.new) }
 {
     if has_several(version) {
         push_with_list(text, told)
@@ -57,7 +57,7 @@ fn push_members(text: &mut String, version: &Version, told: &TokenData) -> Resul
 
 // The members with the list of tokens.
 fn push_with_list(text: &mut String, told: &TokenData) -> Result<(), AllocError>
-    ensures { OnOk result (string_bytes text.new ≡ string_bytes text.old ++ members_text true (abstract_data told.now)) }
+    ensures { OnOk result (AddsText (members_text true (abstract_data told.now)) text.old text.new) }
 {
     push_parties(text, told)?;
     text.push_str(",\"tokens\":[")?;
@@ -67,7 +67,7 @@ fn push_with_list(text: &mut String, told: &TokenData) -> Result<(), AllocError>
 
 // The members with those of the first token.
 fn push_with_first(text: &mut String, told: &TokenData) -> Result<(), AllocError>
-    ensures { OnOk result (string_bytes text.new ≡ string_bytes text.old ++ members_text false (abstract_data told.now)) }
+    ensures { OnOk result (AddsText (members_text false (abstract_data told.now)) text.old text.new) }
 {
     push_first(text, told.tokens.as_slice())?;
     push_parties(text, told)
@@ -75,7 +75,7 @@ fn push_with_first(text: &mut String, told: &TokenData) -> Result<(), AllocError
 
 // The first token and the comma behind it; nothing where there is none.
 fn push_first(text: &mut String, tokens: &[Token]) -> Result<(), AllocError>
-    ensures { OnOk result (string_bytes text.new ≡ string_bytes text.old ++ first_front tokens.now) }
+    ensures { OnOk result (AddsText (first_front tokens.now) text.old text.new) }
 {
     let Some(token) = tokens.first() else {
         return Ok(());
@@ -86,7 +86,7 @@ fn push_first(text: &mut String, tokens: &[Token]) -> Result<(), AllocError>
 
 // Memo, receiver and sender.
 fn push_parties(text: &mut String, told: &TokenData) -> Result<(), AllocError>
-    ensures { OnOk result (string_bytes text.new ≡ string_bytes text.old ++ parties_text (abstract_data told.now)) }
+    ensures { OnOk result (AddsText (parties_text (abstract_data told.now)) text.old text.new) }
 {
     push_memo(text, &told.memo)?;
     push_member(text, "receiver", told.receiver.as_str())?;
@@ -96,7 +96,7 @@ fn push_parties(text: &mut String, told: &TokenData) -> Result<(), AllocError>
 
 // The memo and the comma behind it; nothing where there is none.
 fn push_memo(text: &mut String, memo: &Memo) -> Result<(), AllocError>
-    ensures { OnOk result (string_bytes text.new ≡ string_bytes text.old ++ memo_front memo.now) }
+    ensures { OnOk result (AddsText (memo_front memo.now) text.old text.new) }
 {
     let memo = memo.as_str();
     if memo.is_empty() {
@@ -108,7 +108,7 @@ fn push_memo(text: &mut String, memo: &Memo) -> Result<(), AllocError>
 
 // The tokens, each as an object.
 fn push_objects(text: &mut String, tokens: &[Token]) -> Result<(), AllocError>
-    ensures { OnOk result (string_bytes text.new ≡ string_bytes text.old ++ objects_text tokens.now) }
+    ensures { OnOk result (AddsText (objects_text tokens.now) text.old text.new) }
 {
     match tokens.split_first() {
         Some((first, others)) => push_row(text, first, others),
@@ -117,7 +117,7 @@ fn push_objects(text: &mut String, tokens: &[Token]) -> Result<(), AllocError>
 }
 
 fn push_row(text: &mut String, first: &Token, others: &[Token]) -> Result<(), AllocError>
-    ensures { OnOk result (string_bytes text.new ≡ string_bytes text.old ++ objects_text (first.now ∷ others.now)) }
+    ensures { OnOk result (AddsText (objects_text (first.now ∷ others.now)) text.old text.new) }
 {
     push_object(text, first)?;
     push_behind(text, others)
@@ -125,7 +125,7 @@ fn push_row(text: &mut String, first: &Token, others: &[Token]) -> Result<(), Al
 
 // The tokens, each as an object with a comma before it.
 fn push_behind(text: &mut String, tokens: &[Token]) -> Result<(), AllocError>
-    ensures { OnOk result (string_bytes text.new ≡ string_bytes text.old ++ behind_text tokens.now) }
+    ensures { OnOk result (AddsText (behind_text tokens.now) text.old text.new) }
 {
     for token in tokens {
         text.push_str(",")?;
@@ -135,7 +135,7 @@ fn push_behind(text: &mut String, tokens: &[Token]) -> Result<(), AllocError>
 }
 
 fn push_object(text: &mut String, token: &Token) -> Result<(), AllocError>
-    ensures { OnOk result (string_bytes text.new ≡ string_bytes text.old ++ object (token_members token.now)) }
+    ensures { OnOk result (AddsText (object (token_members token.now)) text.old text.new) }
 {
     text.push_str("{")?;
     push_token(text, token)?;
@@ -144,7 +144,7 @@ fn push_object(text: &mut String, token: &Token) -> Result<(), AllocError>
 
 // Amount and denomination of a token.
 fn push_token(text: &mut String, token: &Token) -> Result<(), AllocError>
-    ensures { OnOk result (string_bytes text.new ≡ string_bytes text.old ++ token_text token.now) }
+    ensures { OnOk result (AddsText (token_text token.now) text.old text.new) }
 {
     text.push_str("\"amount\":\"")?;
     write!(text, "{}", token.amount)?;
@@ -153,7 +153,7 @@ fn push_token(text: &mut String, token: &Token) -> Result<(), AllocError>
 }
 
 fn push_member(text: &mut String, name: &str, value: &str) -> Result<(), AllocError>
-    ensures { OnOk result (string_bytes text.new ≡ string_bytes text.old ++ member name.now value.now) }
+    ensures { OnOk result (AddsText (member name.now value.now) text.old text.new) }
 {
     text.push_str("\"")?;
     text.push_str(name)?;

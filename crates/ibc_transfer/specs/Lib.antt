@@ -1,6 +1,7 @@
 pub mod BankCallbacks
 pub mod BankTransfers
 pub mod TransferChecks
+pub mod TransferHandlers
 pub mod TokenArrival
 pub mod TokenRefunds
 pub mod AbstractMoves

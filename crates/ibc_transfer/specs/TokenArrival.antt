@@ -1,6 +1,6 @@
 -- The moves that bring the tokens of a packet that came, and the acknowledgement that tells of them (ICS 20,
 -- "onRecvPacket").
-use Rattle.std.specs.Prelude.{List, [], ◌∷◌, codes, Option, Some, None, Result, Ok, Err, if◌then◌else◌}
+use Rattle.std.specs.Prelude.{◌≡◌, List, [], ◌∷◌, codes, Option, Some, None, Result, Ok, Err, IsTrue, MatchOption, if◌then◌else◌}
 use Rattle.std.specs.Option.{option_map, option_and_then}
 use Rattle.ibc_ids.specs.Texts.{Text}
 use Rattle.ibc_ids.specs.Names.{is_user, came_over}
@@ -32,6 +32,10 @@ receive_moves p user (token ∷ tokens) =
     option_and_then (λ (first : Move). option_map (λ (moves : List Move). first ∷ moves) (receive_moves p user tokens))
     (receive_move p user token)
 
+-- the user of the receiver's name, or none where no user can have it
+abbrev pub IsUserNamed : Text → Option Text → Type 0
+IsUserNamed receiver user = MatchOption user (¬ IsTrue (is_user receiver)) (λ name. (name ≡ receiver) × IsTrue (is_user receiver))
+
 -- ---- what a packet brings
 
 abbrev pub within_limits : Option (List Move) → Result (List Move) Failure
@@ -58,6 +62,10 @@ failure_ack failure.OverLimit = error (codes "over limit")
 abbrev pub arrival_result : BankState → Checked BankState → Text × BankState
 arrival_result bank (Ok after) = (success, after)
 arrival_result bank (Err refusal) = (failure_ack failure.OverLimit, bank)
+
+-- the moves were made, or none, and this is the acknowledgement
+abbrev pub TakesMoves : BankState → List Move → Text → BankState → Type 0
+TakesMoves bank moves ack after = (ack, after) ≡ arrival_result bank (after_moves moves bank)
 
 abbrev pub after_arrival : BankState → Result (List Move) Failure → Text × BankState
 after_arrival bank (Ok moves) = arrival_result bank (after_moves moves bank)

@@ -1,5 +1,5 @@
 -- The moves of a packet's tokens once the packet is settled (ICS 20, "onAcknowledgePacket" and "refundTokens").
-use Rattle.std.specs.Prelude.{List, [], ◌∷◌, map, Option, Some, None, if◌then◌else◌}
+use Rattle.std.specs.Prelude.{◌≡◌, Bool, List, [], ◌∷◌, map, Option, Some, None, if◌then◌else◌}
 use Rattle.ibc_ids.specs.Texts.{Text, same_text}
 use Rattle.ibc_wire.specs.declared.packet.Packet.{Packet}
 use Rattle.ibc_wire.specs.declared.token.Token.{Token}
@@ -8,6 +8,10 @@ use Rattle.ibc_machine.specs.ics20.Transfers.{transfer_port, came_over}
 use Rattle.ibc_bank.specs.declared.moves.Move.{Move}
 use Rattle.ibc_bank.specs.declared.moves.Move.TheVariants as move
 use Rattle.ibc_transfer.specs.BankCallbacks.{refund_move}
+
+-- whether a denomination came over the channel, and so goes back over it
+abbrev pub IsGoingBack : Text → Text → Bool → Type 0
+IsGoingBack channel denom came = came ≡ came_over transfer_port channel denom
 
 -- back to the sender
 abbrev pub refunds_of : Text → Option Data → List Move

@@ -1,10 +1,9 @@
 //! The moves that bring the tokens of a packet that came.
 
-ghost use Rattle.std.specs.Prelude.{◌≡◌, IfOk, IsTrue, option_map, Some, MatchOption, IsOkUnless};
-ghost use Rattle.ibc_ids.specs.Names.{is_user};
+ghost use Rattle.std.specs.Prelude.{◌≡◌, IfOk, Some, IsOkUnless};
 ghost use Rattle.ibc_ids.specs.declared.refusal.Refusal.TheVariants.{NoMemory};
-ghost use Rattle.ibc_transfer.specs.TokenArrival.{mint_move, receive_move, receive_moves, arrival_moves};
-ghost use Rattle.ibc_transfer.specs.AbstractMoves.{abstract_moves, abstract_arrival};
+ghost use Rattle.ibc_transfer.specs.TokenArrival.{mint_move, receive_move, arrival_moves, IsUserNamed};
+ghost use Rattle.ibc_transfer.specs.AbstractMoves.{abstract_arrival, BringsTokens};
 
 use crate::acks::Failure;
 use ibc_bank::Move;
@@ -20,7 +19,7 @@ pub(crate) fn read_arrival(
     version: &Version,
     packet: &Packet,
 ) -> Result<Result<Vec<Move>, Failure>, Refusal>
-    ensures ok { IfOk result (λ arrived. abstract_arrival arrived ≡ arrival_moves version.now packet.now) }
+    ensures ok { IfOk result (λ moves. abstract_arrival moves ≡ arrival_moves version.now packet.now) }
     ensures err { IsOkUnless result NoMemory }
 {
     let Some(data) = TokenData::read(alloc, version, packet.payload.as_slice())? else {
@@ -35,7 +34,7 @@ pub(crate) fn read_arrival(
 
 // The user with the receiver's name, or none where it is no user's. Refused: `NoMemory`.
 fn user_named(alloc: Global, receiver: &Receiver) -> Result<Option<UserName>, Refusal>
-    ensures ok { IfOk result (λ user. MatchOption user (¬ IsTrue (is_user receiver.now)) (λ name. (name ≡ receiver.now) × IsTrue (is_user receiver.now))) }
+    ensures ok { IfOk result (λ user. IsUserNamed receiver.now user) }
     ensures err { IsOkUnless result NoMemory }
 {
     match UserName::parse(alloc, receiver.as_str()) {
@@ -52,7 +51,7 @@ fn receive_moves(
     user: &UserName,
     tokens: &[Token],
 ) -> Result<Option<Vec<Move>>, Refusal>
-    ensures ok { IfOk result (λ moves. option_map abstract_moves moves ≡ receive_moves packet.now user.now tokens.now) }
+    ensures ok { IfOk result (λ moves. BringsTokens packet.now user.now tokens.now moves) }
     ensures err { IsOkUnless result NoMemory }
 {
     let mut moves = Vec::with_capacity(alloc, tokens.len())?;

@@ -6,6 +6,7 @@ ghost use Rattle.ibc_ids.specs.Texts.{same_text};
 ghost use Rattle.ibc_ids.specs.declared.refusal.Refusal.TheVariants.{NoMemory};
 ghost use Rattle.ibc_machine.specs.ics20.TokenData as plain;
 ghost use Rattle.ibc_machine.specs.ics20.Transfers as transfers;
+ghost use Rattle.ibc_transfer.specs.TokenRefunds.{IsGoingBack};
 
 use ibc_ids::{ChannelId, Denom, PortId, Refusal, Version};
 use std::alloc::Global;
@@ -56,7 +57,7 @@ pub(crate) fn several_tokens(alloc: Global) -> Result<Version, Refusal>
 
 /// Whether a denomination came over a channel, and so goes back over it. Refused: `NoMemory`.
 pub fn came_over(alloc: Global, channel: &ChannelId, denom: &Denom) -> Result<bool, Refusal>
-    ensures ok { IfOk result (λ came. came ≡ transfers.came_over transfers.transfer_port channel.now denom.now) }
+    ensures ok { IfOk result (λ came. IsGoingBack channel.now denom.now came) }
     ensures err { IsOkUnless result NoMemory }
 {
     let port = transfer_port(alloc)?;

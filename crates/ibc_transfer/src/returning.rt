@@ -72,7 +72,7 @@ fn refund_moves(
     user: &UserName,
     tokens: &[Token],
 ) -> Result<Vec<Move>, Refusal>
-    ensures ok { IfOk result (λ moves. moves.items ≡ map (refund_move channel.now user.now) tokens.now) }
+    ensures ok { IfOk result (λ made. made.items ≡ map (refund_move channel.now user.now) tokens.now) }
     ensures err { IsOkUnless result NoMemory }
 {
     let mut moves = Vec::with_capacity(alloc, tokens.len())?;

@@ -1,17 +1,13 @@
 //! Sending tokens.
 
-ghost use Rattle.std.specs.Prelude.{◌≡◌, ◌⊎◌, ◌-◌, ◌^◌, ◌<◌, ℕ, Some, Ok, Err, IfOk, IfErr, OnOk};
+ghost use Rattle.std.specs.Prelude.{◌≡◌, ◌-◌, ◌^◌, ◌<◌, Ok, IfOk, OnOk};
 ghost use Rattle.ibc_ids.specs.Texts.{same_text};
-ghost use Rattle.ibc_ids.specs.declared.refusal.Refusal.TheVariants.{NoMemory};
-ghost use Rattle.ibc_machine.specs.declared.reply.Effect.TheVariants as effect;
 ghost use Rattle.ibc_machine.specs.ics24.Evidence.{require_number};
-ghost use Rattle.ibc_machine.specs.chain.Records.{channel_at};
 ghost use Rattle.ibc_machine.specs.ics20.Transfers as transfer;
-ghost use Rattle.ibc_records.specs.RecordsModel.{core_of};
-ghost use Rattle.ibc_records.specs.HandlerContract.{IsHandledWith};
-ghost use Rattle.ibc_records.specs.ProofVerdicts.{IsJudged};
-ghost use Rattle.ibc_transfer.specs.BankTransfers.{bank_transfer, bank_transfer_many};
-ghost use Rattle.ibc_transfer.specs.TransferChecks.{abstract_outgoing, require_channel, require_moves, send_handler};
+ghost use Rattle.ibc_transfer.specs.TransferChecks.{require_moves};
+ghost use Rattle.ibc_records.specs.OwnEnds.{IsEndAt};
+ghost use Rattle.ibc_records.specs.WhyRefused.{IsRefusedAs};
+ghost use Rattle.ibc_transfer.specs.TransferHandlers.{SendsOne, PaysOne, SendsMany, PaysMany, IsSentOver, IsLeavingEnd};
 
 use crate::names::transfer_port;
 use crate::outgoing::Outgoing;
@@ -36,8 +32,8 @@ pub fn send_transfer(
     transfers: &mut Transfers,
     message: &Transfer,
 ) -> Result<u64, Refusal>
-    ensures answer { (chain chains : ℕ) → IsHandledWith effect.Sent (transfer.transfer message.now) chain chains records.old transfers.old.balances result records.new transfers.new.balances }
-    ensures counted { (chain chains : ℕ) → IsHandledWith effect.Sent (bank_transfer message.now) chain chains records.old transfers.old result records.new transfers.new }
+    ensures answer { SendsOne message.now records.old transfers.old result records.new transfers.new }
+    ensures counted { PaysOne message.now records.old transfers.old result records.new transfers.new }
 {
     let parcel = Outgoing::of_transfer(alloc, message)?;
     send_parcel(alloc, records, transfers, &message.channel, parcel)
@@ -57,8 +53,8 @@ pub fn send_transfer_many(
     transfers: &mut Transfers,
     message: &TransferMany,
 ) -> Result<u64, Refusal>
-    ensures answer { (chain chains : ℕ) → IsHandledWith effect.Sent (transfer.transfer_many message.now) chain chains records.old transfers.old.balances result records.new transfers.new.balances }
-    ensures counted { (chain chains : ℕ) → IsHandledWith effect.Sent (bank_transfer_many message.now) chain chains records.old transfers.old result records.new transfers.new }
+    ensures answer { SendsMany message.now records.old transfers.old result records.new transfers.new }
+    ensures counted { PaysMany message.now records.old transfers.old result records.new transfers.new }
 {
     if !are_few_and_rising(message.tokens.as_slice()) {
         return Err(Refusal::BadMessage);
@@ -76,7 +72,7 @@ fn send_parcel(
     channel: &ChannelId,
     parcel: Outgoing,
 ) -> Result<u64, Refusal>
-    ensures { (chain chains : ℕ) → IsHandledWith effect.Sent (send_handler channel.now (abstract_outgoing parcel)) chain chains records.old transfers.old result records.new transfers.new }
+    ensures { IsSentOver channel.now parcel records.old transfers.old result records.new transfers.new }
 {
     let port = transfer_port(alloc)?;
     let mine = leaving_end(records, &port, channel, &parcel)?;
@@ -93,8 +89,8 @@ fn leaving_end<'a>(
     parcel: &Outgoing,
 ) -> Result<&'a Channel, Refusal>
     requires { port.now ≡ transfer.transfer_port }
-    ensures judged { (chain chains : ℕ) → IsJudged (require_channel channel.now (abstract_outgoing parcel.now)) chain chains records.now (λ mine. mine.now) result }
-    ensures there { IfOk result (λ mine. channel_at (core_of records.now) port.now channel.now ≡ Some mine.now) }
+    ensures judged { IsLeavingEnd channel.now parcel.now records.now result }
+    ensures there { IfOk result (λ mine. IsEndAt records.now port.now channel.now mine.now) }
 {
     let mine = sending_end(records, port, channel)?;
     if !has_version(mine, &parcel.version) {
@@ -117,7 +113,7 @@ fn leaving_end<'a>(
 fn check_next(bank: &Bank, mine: &Channel, moves: &[Move]) -> Result<(), Refusal>
     ensures ok { OnOk result (require_number mine.now.next_send ≡ Ok tt) }
     ensures free { OnOk result (mine.now.next_send < 2 ^ 64 - 1) }
-    ensures err { IfErr result (λ e. (e ≡ NoMemory) ⊎ (require_moves bank.now moves.now mine.now.next_send ≡ Err e)) }
+    ensures err { IsRefusedAs (require_moves bank.now moves.now mine.now.next_send) result }
 {
     match check_number(mine.next_send()) {
         Ok(()) => Ok(()),

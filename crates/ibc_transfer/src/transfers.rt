@@ -6,9 +6,9 @@ ghost use Rattle.ibc_ids.specs.declared.refusal.Refusal.TheVariants.{NoMemory};
 ghost use Rattle.ibc_machine.specs.chain.Genesis.{starting_balances, is_fair};
 ghost use Rattle.ibc_machine.specs.ics20.Transfers.{opens_for_transfers, closes_for_transfers};
 ghost use Rattle.ibc_bank.specs.Moves.{BankState, after_moves};
-ghost use Rattle.ibc_transfer.specs.TokenArrival.{arrival_result};
 ghost use Rattle.ibc_transfer.specs.BankCallbacks.{bank_receives, bank_acknowledged, bank_times_out};
 ghost use Rattle.ibc_transfer.specs.Laws.{transfers_open_or_refuse, transfers_write_sized_acks, transfers_time_out_or_poor, transfers_are_acknowledged_or_poor};
+ghost use Rattle.ibc_transfer.specs.TokenArrival.{TakesMoves};
 
 use crate::acks::{Failure, success};
 use crate::arriving::read_arrival;
@@ -59,7 +59,7 @@ impl Transfers {
 
     // Makes the moves of tokens that came, or none, and answers the acknowledgement. Refused: `NoMemory`.
     fn take(&mut self, moves: &[Move]) -> Result<Bytes, Refusal>
-        ensures ok { IfOk result (λ ack. (ack, self.new) ≡ arrival_result self.old (after_moves moves.now self.old)) }
+        ensures ok { IfOk result (λ ack. TakesMoves self.old moves.now ack self.new) }
         ensures err { IsOkUnless result NoMemory }
         ensures unchanged { OnErr result (self.new ≡ self.old) }
     {

@@ -1,8 +1,9 @@
 //! What is under way of a denomination.
 
-ghost use Rattle.std.specs.Prelude.{◌≡◌, ◌<◌, ◌^◌, Some, IfOk, SomeIff, IsOkUnless};
+ghost use Rattle.std.specs.Prelude.{◌≡◌, IfOk, IsOkUnless};
 ghost use Rattle.ibc_ids.specs.declared.refusal.Refusal.TheVariants.{NoMemory};
-ghost use Rattle.ibc_machine.specs.promises.Totals.{has_succeeded, amount_under_way, flight_between};
+ghost use Rattle.ibc_machine.specs.promises.Totals.{has_succeeded};
+ghost use Rattle.ibc_transfer.specs.InFlight.{IsFlight, IsUnderWay};
 
 use crate::acks::is_success;
 use ibc_ids::{Denom, Refusal, Version};
@@ -19,7 +20,7 @@ pub fn in_flight(
     theirs: &Channel,
     denom: &Denom,
 ) -> Result<Option<u128>, Refusal>
-    ensures ok { IfOk result (λ sum. SomeIff sum (flight_between denom.now (Some mine.now) (Some theirs.now) < 2 ^ 128) (flight_between denom.now (Some mine.now) (Some theirs.now))) }
+    ensures ok { IfOk result (λ sum. IsFlight denom.now mine.now theirs.now sum) }
     ensures err { IsOkUnless result NoMemory }
 {
     let version = &mine.end().version;
@@ -47,7 +48,7 @@ fn amount_under_way(
     sequence: u64,
     commitment: &Commitment,
 ) -> Result<Option<u128>, Refusal>
-    ensures ok { IfOk result (λ amount. SomeIff amount (amount_under_way version.now denom.now theirs.now (sequence, commitment.now) < 2 ^ 128) (amount_under_way version.now denom.now theirs.now (sequence, commitment.now))) }
+    ensures ok { IsUnderWay version.now denom.now theirs.now sequence commitment.now result }
     ensures err { IsOkUnless result NoMemory }
 {
     if has_succeeded(theirs, sequence) {

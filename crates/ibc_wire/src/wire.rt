@@ -55,8 +55,8 @@ pub fn encode<T: Wire>(alloc: Global, value: &T) -> Result<Vec<u8>, Refusal>
 /// The value that the bytes spell, all of them. Refused: `BadMessage` exactly where they spell none; `NoMemory`.
 pub fn decode<T: Wire + Drop>(alloc: Global, bytes: &[u8]) -> Result<T, Refusal>
     ensures ok { IfOk result (λ value. Spells (T.fields value) bytes.now) }
-    ensures bad { IsErrOf result Refusal.BadMessage → (value : T) → ¬ Spells (T.fields value) bytes.now }
-    ensures memory { (value : T) → Spells (T.fields value) bytes.now → IsOkUnless result Refusal.NoMemory }
+    ensures bad { IsErrOf result Refusal.BadMessage → (it : T) → ¬ Spells (T.fields it) bytes.now }
+    ensures memory { (it : T) → Spells (T.fields it) bytes.now → IsOkUnless result Refusal.NoMemory }
     ensures errors { IfErr result (λ e. (e ≡ Refusal.BadMessage) ⊎ (e ≡ Refusal.NoMemory)) }
 {
     T::lemma_reads_what_is_spelled();

@@ -1,5 +1,5 @@
 -- The totals of a channel, by the ledgers of its two ends.
-use Rattle.std.specs.Prelude.{◌≡◌, ◌≢◌, ◌⊎◌, ◌<◌, ℕ, true, false, List, ◌++◌, nat_le, length, Option, Some, Ok, Err, slice_get, if◌then◌else◌}
+use Rattle.std.specs.Prelude.{◌≡◌, ◌≢◌, ◌⊎◌, ◌<◌, ◌+◌, ℕ, true, false, List, ◌++◌, nat_le, length, Option, Some, Ok, Err, slice_get, if◌then◌else◌}
 use Rattle.std.specs.List.{list_all}
 use Rattle.std.specs.Option.{option_map}
 use Rattle.ibc_ids.specs.Texts.{Text}
@@ -13,11 +13,15 @@ use Rattle.ibc_machine.specs.ics04.Channels.{is_established, client_of, peer_cha
 use Rattle.ibc_machine.specs.ics20.Bank.{supply}
 use Rattle.ibc_machine.specs.ics20.Transfers.{transfer_port, came_over}
 use Rattle.ibc_machine.specs.chain.Machine.{World}
-use Rattle.ibc_machine.specs.ledger.Ledgers.{Ledger, state_of}
+use Rattle.ibc_machine.specs.ledger.Ledgers.{Ledger, machine_of, state_of}
 use Rattle.ibc_machine.specs.promises.Totals.{Totals, totals, flight_between}
 
 abbrev pub abstract_totals : ToldTotals → Totals
 abstract_totals t = record { escrow = t.escrow; vouchers = t.vouchers; out = t.out; back = t.back }
+
+-- the escrow account holds what is abroad and under way (ICS 20, "Correctness")
+abbrev pub AreBalancedTotals : ToldTotals → Type 0
+AreBalancedTotals t = t.escrow ≡ t.vouchers + t.out + t.back
 
 -- ---- the two ends
 
@@ -72,6 +76,22 @@ abbrev pub AnswersOfBoth : Ledger → Ledger → Text → Text → Checked Total
 AnswersOfBoth ledger peer channel denom answer =
     (world : World) → StandsAt world ledger.chain ledger → StandsAt world peer.chain peer
     → totals world ledger.chain channel denom ≡ answer
+
+-- memory ran out, or the machine refuses so in every world in which the ledger stands
+abbrev pub AreRefusedAlone : Ledger → Text → Text → Refusal → Type 0
+AreRefusedAlone ledger channel denom refusal =
+    (refusal ≡ NoMemory) ⊎ AnswersAlone ledger channel denom (Err refusal)
+
+-- ---- the totals of a world
+
+-- the totals that the machine gives of a channel of one of these ledgers
+abbrev pub AreTotalsIn : List Ledger → ℕ → Text → Text → ToldTotals → Type 0
+AreTotalsIn ledgers chain channel denom t = totals (machine_of ledgers) chain channel denom ≡ Ok (abstract_totals t)
+
+-- memory ran out, or the machine refuses the totals so
+abbrev pub AreRefusedIn : List Ledger → ℕ → Text → Text → Refusal → Type 0
+AreRefusedIn ledgers chain channel denom refusal =
+    (refusal ≡ NoMemory) ⊎ (totals (machine_of ledgers) chain channel denom ≡ Err refusal)
 
 -- ---- the totals of two ledgers
 

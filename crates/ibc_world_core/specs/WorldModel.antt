@@ -7,7 +7,7 @@ use Rattle.ibc_machine.specs.chain.Genesis.{GenesisState, is_allowed}
 use Rattle.ibc_machine.specs.declared.event.Event.{Event}
 use Rattle.ibc_machine.specs.declared.reply.Reply.{Reply}
 use Rattle.ibc_refinement.specs.World.{new_ledger}
-use Rattle.ibc_refinement.specs.Meetings.{IsPut}
+use Rattle.ibc_refinement.specs.Meetings.{IsPut, FirstHaveSeenNoMore}
 use Rattle.ibc_refinement.specs.Steps.{AllSeeMore}
 
 -- the ledgers alone
@@ -17,6 +17,19 @@ ledgers_alone ledgers = map (λ (h : LedgerModel). h.ledger) ledgers
 -- all ledgers publish in this table
 abbrev pub AllAtTable : TableName → List LedgerModel → Type 0
 AllAtTable table ledgers = (k : ℕ) (h : LedgerModel) → slice_get ledgers k ≡ Some h → h.table ≡ table
+
+-- all ledgers publish in the table of the first of these
+abbrev pub AllAtTableOf : List LedgerModel → List LedgerModel → Type 0
+AllAtTableOf old ledgers = (h : LedgerModel) → slice_get old 0 ≡ Some h → AllAtTable h.table ledgers
+
+-- there are as many ledgers as the genesis of each has chains
+abbrev pub AreOfEachChain : List LedgerModel → Type 0
+AreOfEachChain ledgers = (k : ℕ) (h : LedgerModel)
+    → slice_get ledgers k ≡ Some h → length h.ledger.genesis.chains ≡ length ledgers
+
+-- no other ledger has seen more than the leader
+abbrev pub HaveSeenNoMore : LedgerModel → List LedgerModel → Type 0
+HaveSeenNoMore leader others = FirstHaveSeenNoMore (length others) leader.ledger.seen (ledgers_alone others)
 
 -- as many ledgers at the same table, which have at most seen more
 pub record HaveSeenMore (table : TableName) (old new : List LedgerModel) : Type 0 where
@@ -32,6 +45,10 @@ FirstAreLedgers n ledgers = (k : ℕ) (ledger : Ledger) → k < n → slice_get 
 pub record AreBegun (genesis : GenesisState) (table : TableName) (ledgers : List LedgerModel) : Type 0 where
   pub all : length ledgers ≡ length genesis.chains
   pub each : (k : ℕ) (h : LedgerModel) → slice_get ledgers k ≡ Some h → h ≡ record { ledger = new_ledger genesis k; table = table }
+
+-- the ledgers of a genesis in the beginning, which publish in one table
+abbrev pub AreBegunTogether : GenesisState → List LedgerModel → Type 0
+AreBegunTogether genesis ledgers = (table : TableName) × AreBegun genesis table ledgers
 
 -- each ledger's place is the number of its chain
 abbrev pub AreNumbered : List LedgerModel → Type 0

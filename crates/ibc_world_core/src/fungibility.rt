@@ -1,11 +1,8 @@
 //! The totals of a channel, and what they come to.
 
-ghost use Rattle.std.specs.Prelude.{◌≡◌, ◌+◌, ◌⊎◌, Ok, Err, IfOk, IfErr};
-ghost use Rattle.ibc_ids.specs.declared.refusal.Refusal.TheVariants.{NoMemory};
+ghost use Rattle.std.specs.Prelude.{IfOk, IfErr};
 ghost use Rattle.ibc_machine.specs.ics23.HashedTexts.{HasNoClash};
-ghost use Rattle.ibc_machine.specs.promises.Totals.{totals};
-ghost use Rattle.ibc_world_core.specs.Totals.{abstract_totals};
-ghost use Rattle.ibc_world_core.specs.EveryWorld.{states_of};
+ghost use Rattle.ibc_world_core.specs.Totals.{AreBalancedTotals, AreTotalsIn, AreRefusedIn};
 
 use crate::{World, lemma_what_every_world_keeps};
 use ibc_ids::{ChannelId, Denom, Refusal};
@@ -20,9 +17,9 @@ pub fn balanced_totals(
     channel: &ChannelId,
     denom: &Denom,
 ) -> Result<Totals, Refusal>
-    ensures ok { IfOk result (λ t. totals (states_of world.now) chain channel.now denom.now ≡ Ok (abstract_totals t)) }
-    ensures refused { IfErr result (λ refusal. (refusal ≡ NoMemory) ⊎ (totals (states_of world.now) chain channel.now denom.now ≡ Err refusal)) }
-    ensures balanced { HasNoClash world.now.ledgers → IfOk result (λ t. t.escrow ≡ t.vouchers + t.out + t.back) }
+    ensures ok { IfOk result (λ t. AreTotalsIn world.now.ledgers chain channel.now denom.now t) }
+    ensures refused { IfErr result (λ e. AreRefusedIn world.now.ledgers chain channel.now denom.now e) }
+    ensures balanced { HasNoClash world.now.ledgers → IfOk result (λ t. AreBalancedTotals t) }
 {
     lemma_what_every_world_keeps(world);
     world.lemma_holds_denominations();

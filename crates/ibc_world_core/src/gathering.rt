@@ -1,11 +1,10 @@
 //! Ledgers that were driven apart are gathered, and what they hold is told.
 
-ghost use Rattle.std.specs.Prelude.{◌≡◌, ◌⊎◌, ◌↔◌, ◌≤◌, ◌+◌, ◌==◌, Err, false, length, IfOk, IfErr};
-ghost use Rattle.std.specs.List.{list_all, range_with_len};
+ghost use Rattle.std.specs.Prelude.{◌≡◌, ◌⊎◌, ◌↔◌, ◌≤◌, ◌+◌, Err, false, length, IfOk, IfErr};
 ghost use Rattle.ibc_ids.specs.declared.refusal.Refusal.TheVariants.{BadMessage, NoMemory};
 ghost use Rattle.ibc_machine.specs.promises.Worlds.{of_chain};
 ghost use Rattle.ibc_world_core.specs.WorldModel.{ledgers_alone, AreLedgers, AreAllowed};
-ghost use Rattle.ibc_world_core.specs.WorldAudits.{is_whole, AreOfOneWorld, HaveStayed, IsAudit};
+ghost use Rattle.ibc_world_core.specs.WorldAudits.{is_whole, AreOfOneWorld, HaveStayed, IsAudit, has_each_from};
 
 use crate::holdings::{Audit, holdings_of};
 use crate::meeting::meet_all;
@@ -60,7 +59,7 @@ fn is_whole(ledgers: &[Ledger]) -> bool
 // Whether each of so many chains from a number on has one ledger there.
 fn has_each(ledgers: &[Ledger], from: u8, chains: u8) -> bool
     requires { from + chains ≤ 255 }
-    ensures { result ≡ list_all (λ k. length (of_chain k (ledgers_alone ledgers.now)) == 1) (range_with_len from chains) }
+    ensures { result ≡ has_each_from ledgers.now from chains }
 {
     chains == 0 || count_of(ledgers, from) == 1 && has_each(ledgers, from + 1, chains - 1)
 }

@@ -1,11 +1,8 @@
 //! What the ledgers of a world hold, by the numbers of their chains.
 
-ghost use Rattle.std.specs.Prelude.{◌≡◌, ◌≤◌, ◌<◌, ◌+◌, ◌++◌, ◌∷◌, [], length, map, IfOk, OnOk, IsOkUnless};
-ghost use Rattle.std.specs.List.{flat_map, range_with_len};
+ghost use Rattle.std.specs.Prelude.{◌≤◌, ◌<◌, ◌+◌, length, IfOk, OnOk, IsOkUnless};
 ghost use Rattle.ibc_ids.specs.declared.refusal.Refusal.TheVariants.{NoMemory};
-ghost use Rattle.ibc_machine.specs.promises.Worlds.{of_chain};
-ghost use Rattle.ibc_world_core.specs.WorldModel.{ledgers_alone};
-ghost use Rattle.ibc_world_core.specs.WorldAudits.{balances_of, notes_of, balances_in, notes_in, TellsAll};
+ghost use Rattle.ibc_world_core.specs.WorldAudits.{TellsAll, AddsBalances, AddsNotes, AddsBalancesOfChain, AddsNotesOfChain, AddsBalancesFrom, AddsNotesFrom};
 
 use ibc_ids::{Account, Bytes, ChannelId, Denom, Refusal};
 use ibc_ledger::Ledger;
@@ -37,8 +34,8 @@ pub(crate) fn holdings_of(alloc: Global, ledgers: &[Ledger]) -> Result<Audit, Re
 // Adds what so many chains from a number on hold.
 fn add_chains(ledgers: &[Ledger], from: u8, chains: u8, audit: &mut Audit) -> Result<(), Refusal>
     requires { from + chains ≤ 255 }
-    ensures balances { OnOk result (balances_in audit.new ≡ balances_in audit.old ++ map balances_of (flat_map (λ k. of_chain k (ledgers_alone ledgers.now)) (range_with_len from chains))) }
-    ensures notes { OnOk result (notes_in audit.new ≡ notes_in audit.old ++ map notes_of (flat_map (λ k. of_chain k (ledgers_alone ledgers.now)) (range_with_len from chains))) }
+    ensures balances { OnOk result (AddsBalancesFrom ledgers.now from chains audit.old audit.new) }
+    ensures notes { OnOk result (AddsNotesFrom ledgers.now from chains audit.old audit.new) }
     ensures err { IsOkUnless result NoMemory }
 {
     if chains == 0 {
@@ -50,8 +47,8 @@ fn add_chains(ledgers: &[Ledger], from: u8, chains: u8, audit: &mut Audit) -> Re
 
 // Adds what the ledgers of a chain hold.
 fn add_chain(ledgers: &[Ledger], chain: u8, audit: &mut Audit) -> Result<(), Refusal>
-    ensures balances { OnOk result (balances_in audit.new ≡ balances_in audit.old ++ map balances_of (of_chain chain (ledgers_alone ledgers.now))) }
-    ensures notes { OnOk result (notes_in audit.new ≡ notes_in audit.old ++ map notes_of (of_chain chain (ledgers_alone ledgers.now))) }
+    ensures balances { OnOk result (AddsBalancesOfChain ledgers.now chain audit.old audit.new) }
+    ensures notes { OnOk result (AddsNotesOfChain ledgers.now chain audit.old audit.new) }
     ensures err { IsOkUnless result NoMemory }
 {
     match ledgers {
@@ -67,8 +64,8 @@ fn add_chain(ledgers: &[Ledger], chain: u8, audit: &mut Audit) -> Result<(), Ref
 
 // Adds what a ledger holds.
 fn add_one(ledger: &Ledger, audit: &mut Audit) -> Result<(), Refusal>
-    ensures balances { OnOk result (balances_in audit.new ≡ balances_in audit.old ++ balances_of ledger.now.ledger ∷ []) }
-    ensures notes { OnOk result (notes_in audit.new ≡ notes_in audit.old ++ notes_of ledger.now.ledger ∷ []) }
+    ensures balances { OnOk result (AddsBalances ledger.now.ledger audit.old audit.new) }
+    ensures notes { OnOk result (AddsNotes ledger.now.ledger audit.old audit.new) }
     ensures err { IsOkUnless result NoMemory }
 {
     audit.balances.push(ledger.balances()?)?;

@@ -1,10 +1,9 @@
 //! Ledgers meet, so that all have seen the same publications.
 
-ghost use Rattle.std.specs.Prelude.{◌≡◌, ◌<◌, ℕ, length, Some, slice_get};
+ghost use Rattle.std.specs.Prelude.{◌≡◌, ◌<◌, length};
 ghost use Rattle.ibc_machine.specs.ledger.Ledgers.{SeesMore};
-ghost use Rattle.ibc_ledger.specs.LedgerModel.{LedgerModel};
-ghost use Rattle.ibc_refinement.specs.Meetings.{HaveMet, FirstHaveSeenNoMore, FirstHaveSeen};
-ghost use Rattle.ibc_world_core.specs.WorldModel.{ledgers_alone, AllAtTable, HaveSeenMore, FirstAreLedgers};
+ghost use Rattle.ibc_refinement.specs.Meetings.{HaveMet, FirstHaveSeen};
+ghost use Rattle.ibc_world_core.specs.WorldModel.{ledgers_alone, AllAtTable, HaveSeenMore, FirstAreLedgers, AllAtTableOf, AreOfEachChain, HaveSeenNoMore};
 
 use ibc_ledger::Ledger;
 
@@ -12,10 +11,10 @@ use ibc_ledger::Ledger;
 /// had seen.
 pub fn meet_all(ledgers: &mut [Ledger])
     requires some { 0 < length ledgers.old }
-    requires tables { (h : LedgerModel) → slice_get ledgers.old 0 ≡ Some h → AllAtTable h.table ledgers.old }
-    requires chains { (k : ℕ) (h : LedgerModel) → slice_get ledgers.old k ≡ Some h → length h.ledger.genesis.chains ≡ length ledgers.old }
+    requires tables { AllAtTableOf ledgers.old ledgers.old }
+    requires chains { AreOfEachChain ledgers.old }
     ensures met { HaveMet (ledgers_alone ledgers.old) (ledgers_alone ledgers.new) }
-    ensures tables { (h : LedgerModel) → slice_get ledgers.old 0 ≡ Some h → AllAtTable h.table ledgers.new }
+    ensures tables { AllAtTableOf ledgers.old ledgers.new }
 {
     if let Some((leader, others)) = ledgers.split_first_mut() {
         meet_each(leader, others);
@@ -30,7 +29,7 @@ fn meet_each(leader: &mut Ledger, others: &mut [Ledger])
     ensures table { leader.new.table ≡ leader.old.table }
     ensures leader { SeesMore leader.old.ledger leader.new.ledger }
     ensures others { HaveSeenMore leader.old.table others.old others.new }
-    ensures behind { FirstHaveSeenNoMore (length others.new) leader.new.ledger.seen (ledgers_alone others.new) }
+    ensures behind { HaveSeenNoMore leader.new others.new }
 {
     for index in 0..others.len() {
         leader.meet(&mut others[index]);
@@ -40,7 +39,7 @@ fn meet_each(leader: &mut Ledger, others: &mut [Ledger])
 // Each of the others, which are behind the leader, takes over just what the leader has seen.
 fn follow_each(others: &mut [Ledger], leader: &mut Ledger)
     requires tables { AllAtTable leader.old.table others.old }
-    requires behind { FirstHaveSeenNoMore (length others.old) leader.old.ledger.seen (ledgers_alone others.old) }
+    requires behind { HaveSeenNoMore leader.old others.old }
     ensures leader { leader.new ≡ leader.old }
     ensures others { HaveSeenMore leader.old.table others.old others.new }
     ensures seen { FirstHaveSeen (length others.new) leader.old.ledger.seen (ledgers_alone others.new) }

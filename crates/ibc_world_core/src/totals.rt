@@ -1,13 +1,11 @@
 //! The totals of a channel: what is escrowed, present and under way.
 
-ghost use Rattle.std.specs.Prelude.{◌≡◌, ◌≤◌, ◌^◌, ◌⊎◌, ◌<◌, length, Some, None, Ok, Err, IfOk, IfErr, MatchOption, IsOkUnless};
-ghost use Rattle.ibc_ids.specs.declared.refusal.Refusal.TheVariants.{NoMemory, TooLarge};
-ghost use Rattle.ibc_machine.specs.ics20.Bank.{balance, escrow};
+ghost use Rattle.std.specs.Prelude.{◌≡◌, ◌^◌, ◌<◌, length, IfOk, IfErr, IsOkUnless};
+ghost use Rattle.ibc_ids.specs.declared.refusal.Refusal.TheVariants.{NoMemory};
 ghost use Rattle.ibc_machine.specs.ics04.Channels.{is_established};
-ghost use Rattle.ibc_machine.specs.ledger.Ledgers.{machine_of, state_of};
-ghost use Rattle.ibc_machine.specs.promises.Totals.{totals, flight_between};
 ghost use Rattle.ibc_world_core.specs.WorldModel.{ledgers_alone};
-ghost use Rattle.ibc_world_core.specs.Totals.{IsOwnEnd, IsPeerEnd, AnswersAlone, AnswersWith, AreTotals, AreRefused, TracksPeer, AllHold, FirstHold, named_end, tracked_over, peer_amounts, abstract_totals};
+ghost use Rattle.ibc_world_core.specs.Totals.{IsOwnEnd, AreTotals, AreRefused, TracksPeer, AllHold, FirstHold, tracked_over, AreRefusedAlone, AreTotalsIn, AreRefusedIn};
+ghost use Rattle.ibc_world_core.specs.LedgerEnds.{AreTotalsWith, AreRefusedWith, IsPeerFound, escrowed_at, flight_from, sums_abroad, IsTooLarge};
 
 use crate::World;
 use ibc_ids::{Account, ChannelId, Denom, Refusal};
@@ -35,8 +33,8 @@ impl World {
     /// where the denomination begins with the end's own hop; `WrongPeer` where the end that it names isn't there; `TooLarge`
     /// where a sum is more than 2^128 - 1. `NoMemory` may stand for any of these.
     pub fn totals(&self, chain: u8, channel: &ChannelId, denom: &Denom) -> Result<Totals, Refusal>
-        ensures ok { IfOk result (λ t. totals (machine_of self.now.ledgers) chain channel.now denom.now ≡ Ok (abstract_totals t)) }
-        ensures refused { IfErr result (λ refusal. (refusal ≡ NoMemory) ⊎ (totals (machine_of self.now.ledgers) chain channel.now denom.now ≡ Err refusal)) }
+        ensures ok { IfOk result (λ t. AreTotalsIn self.now.ledgers chain channel.now denom.now t) }
+        ensures refused { IfErr result (λ e. AreRefusedIn self.now.ledgers chain channel.now denom.now e) }
     {
         let Some(ledger) = self.ledger(chain) else {
             return Err(Refusal::UnknownChain);
@@ -92,10 +90,10 @@ fn own_end<'a>(
     channel: &'a ChannelId,
     denom: &Denom,
 ) -> Result<LedgerEnd<'a>, Refusal>
-    ensures ok { IfOk result (λ mine. IsOwnEnd mine.name.now denom.now mine.ledger.now.ledger mine.end.now) }
+    ensures ok { IfOk result (λ e. IsOwnEnd e.name.now denom.now e.ledger.now.ledger e.end.now) }
     ensures ledger { IfOk result (λ mine. mine.ledger.now.ledger ≡ ledger.now.ledger) }
     ensures name { IfOk result (λ mine. mine.name.now ≡ channel.now) }
-    ensures refused { IfErr result (λ refusal. (refusal ≡ NoMemory) ⊎ AnswersAlone ledger.now.ledger channel.now denom.now (Err refusal)) }
+    ensures refused { IfErr result (λ e. AreRefusedAlone ledger.now.ledger channel.now denom.now e) }
 {
     let port = transfer_port(alloc)?;
     let Some(end) = ledger.channel(&port, channel)? else {
@@ -131,8 +129,8 @@ fn totals_with(
     denom: &Denom,
 ) -> Result<Totals, Refusal>
     requires { IsOwnEnd mine.name.now denom.now mine.ledger.now.ledger mine.end.now }
-    ensures ok { IfOk result (λ t. AnswersWith mine.entry.ledger.now.ledger mine.entry.end.now ledger.now.ledger mine.entry.name.now denom.now (Ok (abstract_totals t))) }
-    ensures refused { IfErr result (λ refusal. (refusal ≡ NoMemory) ⊎ AnswersWith mine.entry.ledger.now.ledger mine.entry.end.now ledger.now.ledger mine.entry.name.now denom.now (Err refusal)) }
+    ensures ok { IfOk result (λ t. AreTotalsWith mine.entry ledger.now.ledger denom.now t) }
+    ensures refused { IfErr result (λ e. AreRefusedWith mine.entry ledger.now.ledger denom.now e) }
 {
     let Some(peer) = peer_end(mine, ledger)? else {
         return Err(Refusal::WrongPeer);
@@ -150,7 +148,7 @@ fn totals_with(
 
 // The end of a ledger that an end names as its peer, or none. Refused: `NoMemory`.
 fn peer_end<'a>(mine: LedgerEnd<'a>, ledger: &'a Ledger) -> Result<Option<LedgerEnd<'a>>, Refusal>
-    ensures ok { IfOk result (λ found. MatchOption found (named_end ledger.now.ledger mine.entry.end.now ≡ None) (λ peer. (peer.ledger.now.ledger ≡ ledger.now.ledger) × IsPeerEnd mine.entry.end.now ledger.now.ledger peer.name.now peer.end.now)) }
+    ensures ok { IfOk result (λ found. IsPeerFound ledger.now.ledger mine.entry.end.now found) }
     ensures err { IsOkUnless result NoMemory }
 {
     let end = mine.end.end();
@@ -178,7 +176,7 @@ fn is_established(end: &Channel) -> bool
 
 // What the escrow account of an end holds of a denomination. Refused: `NoMemory`.
 fn escrowed(mine: LedgerEnd<'_>, denom: &Denom) -> Result<u128, Refusal>
-    ensures ok { IfOk result (λ amount. amount ≡ balance (state_of mine.entry.ledger.now.ledger).chain.records.apps.balances (escrow mine.entry.name.now) denom.now) }
+    ensures ok { IfOk result (λ amount. amount ≡ escrowed_at mine.entry denom.now) }
     ensures small { IfOk result (λ amount. amount < 2 ^ 128) }
     ensures err { IsOkUnless result NoMemory }
 {
@@ -194,9 +192,9 @@ fn under_way(
     peer: LedgerEnd<'_>,
     denom: &Denom,
 ) -> Result<u128, Refusal>
-    ensures ok { IfOk result (λ amount. amount ≡ flight_between denom.now (Some mine.entry.end.now) (Some peer.entry.end.now)) }
+    ensures ok { IfOk result (λ amount. amount ≡ flight_from mine.entry peer.entry denom.now) }
     ensures small { IfOk result (λ amount. amount < 2 ^ 128) }
-    ensures refused { IfErr result (λ refusal. (refusal ≡ NoMemory) ⊎ ((refusal ≡ TooLarge) × (2 ^ 128 ≤ flight_between denom.now (Some mine.entry.end.now) (Some peer.entry.end.now)))) }
+    ensures refused { IfErr result (λ e. IsTooLarge (flight_from mine.entry peer.entry denom.now) e) }
 {
     match in_flight(alloc, mine.end, peer.end, denom)? {
         Some(amount) => Ok(amount),
@@ -212,9 +210,9 @@ fn abroad(
     peer: LedgerEnd<'_>,
     denom: &Denom,
 ) -> Result<(u128, u128), Refusal>
-    ensures ok { IfOk result (λ both. both ≡ peer_amounts (state_of peer.entry.ledger.now.ledger).chain mine.entry.end.now peer.entry.name.now peer.entry.end.now denom.now) }
+    ensures ok { IfOk result (λ both. both ≡ sums_abroad mine.entry peer.entry denom.now) }
     ensures small { IfOk result (λ both. (both.0 < 2 ^ 128) × (both.1 < 2 ^ 128)) }
-    ensures refused { IfErr result (λ refusal. (refusal ≡ NoMemory) ⊎ ((refusal ≡ TooLarge) × (2 ^ 128 ≤ (peer_amounts (state_of peer.entry.ledger.now.ledger).chain mine.entry.end.now peer.entry.name.now peer.entry.end.now denom.now).1))) }
+    ensures refused { IfErr result (λ e. IsTooLarge (sums_abroad mine.entry peer.entry denom.now).1 e) }
 {
     match denom.hop(alloc, &mine.end.end().peer_port, peer.name) {
         Ok(hopped) => {

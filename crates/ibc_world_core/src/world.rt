@@ -5,12 +5,12 @@ ghost use Rattle.ibc_ids.specs.declared.refusal.Refusal.TheVariants.{NoMemory, B
 ghost use Rattle.ibc_machine.specs.declared.reply.Reply.TheVariants as reply_of;
 ghost use Rattle.ibc_machine.specs.chain.Genesis.{genesis_state, is_allowed};
 ghost use Rattle.ibc_machine.specs.ledger.Ledgers.{chain_of};
-ghost use Rattle.ibc_root_table.specs.Passes.{TableName, AreDealt};
+ghost use Rattle.ibc_root_table.specs.Passes.{AreDealt};
 ghost use Rattle.ibc_ledger.specs.LedgerModel.{shape_of};
 ghost use Rattle.ibc_ledger.specs.HistoryGrowth.{AddsOrNot};
 ghost use Rattle.ibc_refinement.specs.World.{AreNew, HasItsPast};
 ghost use Rattle.ibc_refinement.specs.Steps.{IsStep, GoesOnBy};
-ghost use Rattle.ibc_world_core.specs.WorldModel.{ledgers_alone, AreBegun, AreNumbered, IsPutTo, SameTables};
+ghost use Rattle.ibc_world_core.specs.WorldModel.{ledgers_alone, AreBegun, AreNumbered, IsPutTo, SameTables, AreBegunTogether};
 ghost use Rattle.ibc_world_core.specs.WorldAudits.{AreOfOneWorld};
 
 use crate::meeting::meet_all;
@@ -187,7 +187,7 @@ fn ask(ledger: &mut Ledger, event: Event) -> Reply
 // The table of a genesis, and the ledgers of its chains.
 fn ledgers_of(alloc: Global, genesis: &Genesis) -> Result<Vec<Ledger>, Refusal>
     requires { IsTrue (is_allowed (genesis_state genesis.now)) }
-    ensures ok { IfOk result (λ ledgers. (table : TableName) × AreBegun (genesis_state genesis.now) table ledgers.items) }
+    ensures ok { IfOk result (λ all. AreBegunTogether (genesis_state genesis.now) all.items) }
     ensures err { IsOkUnless result NoMemory }
 {
     let chains = genesis.chains.len() as u8;
@@ -206,7 +206,7 @@ fn begin(
     requires allowed { IsTrue (is_allowed (genesis_state genesis.now)) }
     requires table { table.now.value.shape ≡ shape_of (genesis_state genesis.now) }
     requires passes { AreDealt (length genesis.now.chains.items) 0 table.now.value passes.items }
-    ensures ok { IfOk result (λ ledgers. AreBegun (genesis_state genesis.now) table.now.value ledgers.items) }
+    ensures ok { IfOk result (λ all. AreBegun (genesis_state genesis.now) table.now.value all.items) }
     ensures err { IsOkUnless result NoMemory }
 {
     let mut ledgers = Vec::with_capacity(alloc, passes.len())?;

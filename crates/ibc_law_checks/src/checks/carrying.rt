@@ -2,9 +2,9 @@
 
 ghost use Rattle.std.specs.Prelude.{◌≡◌, IfOk, OnErr, OnOk, map};
 ghost use Rattle.std.specs.List.{list_any};
-ghost use Rattle.ibc_law_checks.specs.MovedLanes.{AreMoved, ArePassed, ArePassedOrTold};
-ghost use Rattle.ibc_law_checks.specs.TouchedPlaces.{is_place, is_place_of, left_alone, touched_at, touched_between, touched_by, touched_with, with_place, with_places, with_sent_tokens};
-ghost use Rattle.std.specs.Option.{option_map_or};
+ghost use Rattle.ibc_law_checks.specs.MovedLanes.{AreMoved, ArePassed};
+ghost use Rattle.ibc_law_checks.specs.TouchedPlaces.{is_place, is_place_of, left_alone, touched_at, touched_by, with_place, with_places, with_sent_tokens};
+ghost use Rattle.ibc_law_checks.specs.Looks.{PassesOrTells, TouchesBy, TouchesEnd, TouchesIfAny};
 
 use super::told::{if_broken, of_message};
 use crate::{EndNotes, Finding, Lane, LawChecks, Movement, PacketLaw, Passing, TokenPlace};
@@ -154,8 +154,8 @@ impl LawChecks {
         movement: Movement,
     ) -> Result<Option<Finding>, Refusal>
         ensures same { self.new.ends ≡ self.old.ends }
-        ensures lanes { IfOk result (λ found. AreMoved movement self.old.lanes.items found self.new.lanes.items) }
-        ensures places { IfOk result (λ found. self.new.places.items ≡ touched_with world.now self.old.ends.items movement self.old.places.items) }
+        ensures lanes { IfOk result (λ f. AreMoved movement self.old.lanes.items f self.new.lanes.items) }
+        ensures places { IfOk result (λ found. TouchesBy world.now movement self.old self.new) }
     {
         match movement {
             Movement::Nothing => Ok(None),
@@ -186,8 +186,8 @@ impl LawChecks {
         packet: &Packet,
     ) -> Result<Option<Finding>, Refusal>
         ensures same { self.new.ends ≡ self.old.ends }
-        ensures lanes { IfOk result (λ found. ArePassedOrTold passing packet.now lane self.old.lanes.items found self.new.lanes.items) }
-        ensures places { IfOk result (λ found. self.new.places.items ≡ touched_between world.now self.old.ends.items lane self.old.places.items) }
+        ensures lanes { PassesOrTells passing packet.now lane self.old result self.new }
+        ensures places { IfOk result (λ found. TouchesEnd world.now lane self.old self.new) }
     {
         self.touch(world, lane)?;
         let told = pass_over(self.lanes.as_mut_slice(), lane, passing, packet)?;
@@ -198,7 +198,7 @@ impl LawChecks {
     fn touch_if(&mut self, world: &World, end: Option<usize>) -> Result<(), Refusal>
         ensures same { self.new.ends ≡ self.old.ends }
         ensures lanes { self.new.lanes ≡ self.old.lanes }
-        ensures places { OnOk result (self.new.places.items ≡ option_map_or (λ own. touched_between world.now self.old.ends.items own self.old.places.items) end self.old.places.items) }
+        ensures places { OnOk result (TouchesIfAny world.now end self.old self.new) }
     {
         match end {
             Some(own) => self.touch(world, own),
@@ -210,7 +210,7 @@ impl LawChecks {
     fn touch(&mut self, world: &World, own: usize) -> Result<(), Refusal>
         ensures same { self.new.ends ≡ self.old.ends }
         ensures lanes { self.new.lanes ≡ self.old.lanes }
-        ensures places { OnOk result (self.new.places.items ≡ touched_between world.now self.old.ends.items own self.old.places.items) }
+        ensures places { OnOk result (TouchesEnd world.now own self.old self.new) }
     {
         let peer = self.peer_of(world, own)?;
         touch_at(self.places.as_mut_slice(), self.ends.as_slice(), own);

@@ -2,8 +2,8 @@
 
 ghost use Rattle.std.specs.Prelude.{◌≡◌, IfOk, Some, None};
 ghost use Rattle.ibc_law_checks.specs.Arrivals.{arrives_in_time};
-ghost use Rattle.ibc_law_checks.specs.EndPlaces.{place_of_end};
-ghost use Rattle.ibc_law_checks.specs.Movements.{acknowledged_at, acknowledged_on, moved_by, received_from, received_on, sent_at, sent_over, sent_with, timed_out_on};
+ghost use Rattle.ibc_law_checks.specs.Movements.{received_from, sent_at, timed_out_on};
+ghost use Rattle.ibc_law_checks.specs.Looks.{GivesMovement, GivesSent, GivesSentOver, GivesReceived, GivesAcknowledged, GivesAcknowledgedAt, place_of_source};
 
 use crate::ends::place_of_end;
 use crate::{BrokenLaw, LawChecks, Movement, PacketLaw, Passing, is_in_time};
@@ -54,7 +54,7 @@ impl LawChecks {
         message: &Message,
         effect: &Effect,
     ) -> Result<Movement, Refusal>
-        ensures { IfOk result (λ moved. moved ≡ moved_by world.now self.now.ends.items self.now.clocks.items chain message.now effect.now) }
+        ensures { GivesMovement world.now self.now chain message.now effect.now result }
     {
         match message {
             Message::Transfer(message) => {
@@ -85,7 +85,7 @@ impl LawChecks {
         channel: &ChannelId,
         effect: &Effect,
     ) -> Result<Movement, Refusal>
-        ensures { IfOk result (λ moved. moved ≡ sent_with world.now self.now.ends.items chain port.now channel.now effect.now) }
+        ensures { GivesSent world.now self.now chain port.now channel.now effect.now result }
     {
         match effect {
             Effect::Sent(sequence) => self.sent_over(world, chain, port, channel, *sequence),
@@ -102,7 +102,7 @@ impl LawChecks {
         channel: &ChannelId,
         sequence: u64,
     ) -> Result<Movement, Refusal>
-        ensures { IfOk result (λ moved. moved ≡ sent_over world.now self.now.ends.items chain port.now channel.now sequence) }
+        ensures { GivesSentOver world.now self.now chain port.now channel.now sequence result }
     {
         match place_of_end(self.ends.as_slice(), chain, port, channel) {
             Some(lane) => self.sent_at(world, lane, sequence),
@@ -129,7 +129,7 @@ impl LawChecks {
 
     // What a packet moves that a chain has received.
     fn received_on(&self, world: &World, chain: u8, packet: &Packet) -> Result<Movement, Refusal>
-        ensures { IfOk result (λ moved. moved ≡ received_on world.now self.now.ends.items self.now.clocks.items chain packet.now) }
+        ensures { GivesReceived world.now self.now chain packet.now result }
     {
         if !self.is_in_time(chain, packet) {
             return Ok(Movement::Breaks {
@@ -149,7 +149,7 @@ impl LawChecks {
         packet: &Packet,
         ack: &[u8],
     ) -> Result<Movement, Refusal>
-        ensures { IfOk result (λ moved. moved ≡ acknowledged_on world.now self.now.ends.items chain packet.now ack.now) }
+        ensures { GivesAcknowledged world.now self.now chain packet.now ack.now result }
     {
         match self.source_of(chain, packet) {
             Some(lane) => self.acknowledged_at(world, lane, packet, ack),
@@ -165,7 +165,7 @@ impl LawChecks {
         packet: &Packet,
         ack: &[u8],
     ) -> Result<Movement, Refusal>
-        ensures { IfOk result (λ moved. moved ≡ acknowledged_at world.now self.now.ends.items packet.now ack.now lane) }
+        ensures { GivesAcknowledgedAt world.now self.now packet.now ack.now lane result }
     {
         if self.is_written(world, lane, packet.sequence, ack)? {
             Ok(passes(lane, Passing::Acknowledged, packet)?)
@@ -189,7 +189,7 @@ impl LawChecks {
 
     // The place of the end that is a packet's source on a chain, or none.
     fn source_of(&self, chain: u8, packet: &Packet) -> Option<usize>
-        ensures { result ≡ place_of_end self.now.ends.items chain packet.now.source_port packet.now.source_channel }
+        ensures { result ≡ place_of_source self.now chain packet.now }
     {
         let port = packet.source_port.as_str();
         place_of_end(self.ends.as_slice(), chain, port, &packet.source_channel)

@@ -122,7 +122,7 @@ impl LawChecks {
         sequence: u64,
         ack: &[u8],
     ) -> Result<bool, Refusal>
-        ensures { IfOk result (λ written. written ≡ is_written world.now self.now.ends.items own sequence ack.now) }
+        ensures { IfOk result (λ w. w ≡ is_written world.now self.now.ends.items own sequence ack.now) }
     {
         match self.peer_of(world, own)? {
             Some(peer) => Ok(is_same_ack(ack, self.ack_at(world, peer, sequence)?)),

@@ -1,14 +1,15 @@
 //! The channels of a chain.
 
-ghost use Rattle.std.specs.Prelude.{◌≡◌, ◌&&◌, IsTrue, string_bytes, ◌-◌, ◌^◌, ◌<◌, IfSome, IsNone, IsSome, IfOk, OnOk, OnErr, option_copied, IsOkUnless};
+ghost use Rattle.std.specs.Prelude.{◌≡◌, ◌&&◌, IsTrue, string_bytes, ◌-◌, ◌^◌, ◌<◌, IsNone, IsSome, IfOk, OnOk, OnErr, option_copied, IsOkUnless};
 ghost use Rattle.ibc_ids.specs.Texts.{pair_cmp};
-ghost use Rattle.ibc_ids.specs.Maps.{at, with};
+ghost use Rattle.ibc_ids.specs.Maps.{at};
 ghost use Rattle.ibc_ids.specs.Names.{is_port, is_channel};
 ghost use Rattle.ibc_ids.specs.Paths.{path, nth_channel};
-ghost use Rattle.ibc_ids.specs.declared.key.Key.TheVariants as key;
 ghost use Rattle.ibc_ids.specs.declared.refusal.Refusal.TheVariants.{NoMemory, UnknownChannel};
 ghost use Rattle.ibc_machine.specs.ics24.Values.{value_bytes, ChannelIs};
 ghost use Rattle.ibc_records.specs.RecordsModel.{AddsChannel, SetsChannelEnd, IsUnchanged};
+ghost use Rattle.ibc_records.specs.ChannelSteps.{HasNewEnd};
+ghost use Rattle.ibc_records.specs.Entries.{end_path_of};
 
 use crate::Records;
 use crate::channel::Channel;
@@ -23,7 +24,7 @@ use std::alloc::Global;
 impl Records {
     /// A channel by its port and its identifier, or none. Refused: `NoMemory`.
     pub fn channel(&self, port: &PortId, id: &ChannelId) -> Result<Option<&Channel>, Refusal>
-        ensures ok { IfOk result (λ found. option_copied found ≡ at pair_cmp (port.now, id.now) self.now.channels) }
+        ensures ok { IfOk result (λ c. option_copied c ≡ at pair_cmp (port.now, id.now) self.now.channels) }
         ensures err { IsOkUnless result NoMemory }
     {
         let name = (port.clone()?, id.clone()?);
@@ -106,7 +107,7 @@ fn reserve_end(
     name: &(PortId, ChannelId),
     end: &ChannelEnd,
 ) -> Result<(String, Bytes), Refusal>
-    ensures path { IfOk result (λ entry. string_bytes entry.0 ≡ path (key.ChannelEnd name.now.0 name.now.1)) }
+    ensures path { IfOk result (λ entry. string_bytes entry.0 ≡ end_path_of name.now) }
     ensures value { IfOk result (λ entry. entry.1 ≡ value_bytes (ChannelIs end.now)) }
     ensures named { OnOk result (IsTrue (is_port name.now.0 && is_channel name.now.1)) }
     ensures room { OnOk result (0 < store.new.room) }
@@ -126,7 +127,7 @@ fn set_end(
     end: ChannelEnd,
 ) -> Result<(), Refusal>
     requires { IsSome (at pair_cmp name channels.old.pairs) }
-    ensures ok { OnOk result (IfSome (at pair_cmp name channels.old.pairs) (λ channel. channels.new.pairs ≡ with pair_cmp name (record channel { end = end }) channels.old.pairs)) }
+    ensures ok { OnOk result (HasNewEnd name end channels.old channels.new) }
     ensures err { IsOkUnless result NoMemory }
     ensures unchanged { OnErr result (channels.new.pairs ≡ channels.old.pairs) }
 {

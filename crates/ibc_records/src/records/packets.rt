@@ -1,19 +1,22 @@
 //! The packets of a chain's channels.
 
-ghost use Rattle.std.specs.Prelude.{◌≡◌, ◌⊎◌, ◌&&◌, ◌+◌, ◌-◌, ◌^◌, ◌<◌, ◌≤◌, true, Ok, Err, IsSome, IfSome, IfOk, IfErr, OnOk, OnErr, IsTrue, option_map, string_bytes, IsOkUnless};
+ghost use Rattle.std.specs.Prelude.{◌≡◌, ◌&&◌, ◌+◌, ◌-◌, ◌^◌, ◌<◌, ◌≤◌, true, Ok, IsSome, IfOk, OnOk, OnErr, IsTrue, string_bytes, IsOkUnless};
 ghost use Rattle.std.specs.Option.{IsSomeAnd};
 ghost use Rattle.ibc_ids.specs.Texts.{pair_cmp};
-ghost use Rattle.ibc_ids.specs.Maps.{at, with};
+ghost use Rattle.ibc_ids.specs.Maps.{at};
 ghost use Rattle.ibc_ids.specs.Names.{is_port, is_channel};
 ghost use Rattle.ibc_ids.specs.Paths.{path};
-ghost use Rattle.ibc_ids.specs.declared.key.Key.TheVariants as key;
 ghost use Rattle.ibc_ids.specs.declared.refusal.Refusal.TheVariants.{NoMemory};
 ghost use Rattle.ibc_machine.specs.chain.Records.{channel_at};
-ghost use Rattle.ibc_machine.specs.ics04.Packets.{is_ordered, after_send, after_receive, after_ack, after_timeout};
+ghost use Rattle.ibc_machine.specs.ics04.Packets.{is_ordered};
 ghost use Rattle.ibc_machine.specs.ics24.Values.{value_bytes, AckIs, CommitmentIs, NumberIs};
-ghost use Rattle.ibc_machine.specs.ics04.Parts.{part_after_receive, part_after_ack, part_after_timeout, entry_of};
 ghost use Rattle.ibc_records.specs.RecordsModel.{core_of, IsUnchanged};
-ghost use Rattle.ibc_records.specs.Packets.{SendsPacket, ReceivesPacket, AcknowledgesPacket, TimesOutPacket};
+ghost use Rattle.ibc_records.specs.Packets.{SendsPacket, AcknowledgesPacket, TimesOutPacket};
+ghost use Rattle.ibc_records.specs.ChannelSteps.{SendsOn, ReceivesOn, AcknowledgesOn, TimesOutOn};
+ghost use Rattle.ibc_records.specs.AppAnswers.{IfReceived, IsAckRefused, IsTimeoutRefused, AnswersOn, TellsAck, IsAckRefusedOn, TellsTimeout, IsTimeoutRefusedOn};
+ghost use Rattle.ibc_records.specs.Entries.{commitment_path, next_send_path, ack_path, IsReceivedEntry, IsAckedEntry, IsClosedEntry};
+ghost use Rattle.ibc_records.specs.OwnEnds.{CanSend, CanReceive, CanAcknowledge, CanCountRecv, CanCountAck};
+ghost use Rattle.ibc_records.specs.WhyRefused.{IsRefusedAs};
 
 use crate::acknowledgement::{AckCopies, AckRoom};
 use crate::channel::Channel;
@@ -37,7 +40,7 @@ impl Records {
         id: &ChannelId,
         commitment: Commitment,
     ) -> Result<u64, Refusal>
-        requires { IsSomeAnd (channel_at (core_of self.old) port.now id.now) (λ mine. mine.next_send < 2 ^ 64 - 1) }
+        requires { CanSend self.old port.now id.now }
         ensures ok { IfOk result (λ n. SendsPacket self.old port.now id.now commitment n self.new) }
         ensures err { IsOkUnless result NoMemory }
         ensures unchanged { OnErr result (IsUnchanged self.old self.new) }
@@ -55,10 +58,10 @@ impl Records {
         id: &ChannelId,
         commitment: Commitment,
     ) -> Result<u64, Refusal>
-        requires { IsSomeAnd (channel_at (core_of self.old) port.now id.now) (λ mine. mine.next_send < 2 ^ 64 - 1) }
+        requires { CanSend self.old port.now id.now }
         ensures ok { IfOk result (λ n. SendsPacket self.old port.now id.now commitment n self.new) }
         ensures paid { OnOk result (P.pays payer.old bill.now ≡ Ok payer.new) }
-        ensures err { IfErr result (λ refusal. (refusal ≡ NoMemory) ⊎ (P.pays payer.old bill.now ≡ Err refusal)) }
+        ensures err { IsRefusedAs (P.pays payer.old bill.now) result }
         ensures unchanged { OnErr result (IsUnchanged self.old self.new × (payer.new ≡ payer.old)) }
     {
         let name = name_of(port, id)?;
@@ -87,8 +90,8 @@ impl Records {
         app: &mut A,
         packet: &Packet,
     ) -> Result<(Bytes, Bytes), Refusal>
-        requires { IsSomeAnd (channel_at (core_of self.old) packet.now.destination_port packet.now.destination_channel) (λ mine. is_ordered mine ≡ true → mine.next_recv < 2 ^ 64 - 1) }
-        ensures ok { IfOk result (λ acks. ReceivesPacket A.receives self.old app.old packet.now acks.0 self.new app.new) }
+        requires { CanReceive self.old packet.now }
+        ensures ok { IfReceived A.receives self.old app.old packet.now result self.new app.new }
         ensures copy { IfOk result (λ acks. acks.1 ≡ acks.0) }
         ensures err { IsOkUnless result NoMemory }
         ensures unchanged { OnErr result (IsUnchanged self.old self.new × (app.new ≡ app.old)) }
@@ -120,9 +123,9 @@ impl Records {
         packet: &Packet,
         ack: &[u8],
     ) -> Result<(), Refusal>
-        requires { IsSomeAnd (channel_at (core_of self.old) packet.now.source_port packet.now.source_channel) (λ mine. is_ordered mine ≡ true → mine.next_ack < 2 ^ 64 - 1) }
+        requires { CanAcknowledge self.old packet.now }
         ensures ok { OnOk result (AcknowledgesPacket A.is_acknowledged self.old app.old packet.now ack.now self.new app.new) }
-        ensures err { IfErr result (λ refusal. (refusal ≡ NoMemory) ⊎ IfSome (channel_at (core_of self.old) packet.now.source_port packet.now.source_channel) (λ mine. A.is_acknowledged app.old mine.end.version packet.now ack.now ≡ Err refusal)) }
+        ensures err { IsAckRefused A.is_acknowledged self.old app.old packet.now ack.now result }
         ensures unchanged { OnErr result (IsUnchanged self.old self.new × (app.new ≡ app.old)) }
     {
         let name = name_of(&packet.source_port, &packet.source_channel)?;
@@ -147,7 +150,7 @@ impl Records {
     pub fn time_out<A: App>(&mut self, app: &mut A, packet: &Packet) -> Result<(), Refusal>
         requires { IsSome (channel_at (core_of self.old) packet.now.source_port packet.now.source_channel) }
         ensures ok { OnOk result (TimesOutPacket A.times_out self.old app.old packet.now self.new app.new) }
-        ensures err { IfErr result (λ refusal. (refusal ≡ NoMemory) ⊎ IfSome (channel_at (core_of self.old) packet.now.source_port packet.now.source_channel) (λ mine. A.times_out app.old mine.end.version packet.now ≡ Err refusal)) }
+        ensures err { IsTimeoutRefused A.times_out self.old app.old packet.now result }
         ensures unchanged { OnErr result (IsUnchanged self.old self.new × (app.new ≡ app.old)) }
     {
         let name = name_of(&packet.source_port, &packet.source_channel)?;
@@ -184,10 +187,10 @@ fn reserve_send(
     commitment: &Commitment,
 ) -> Result<((String, Bytes), (String, Bytes)), Refusal>
     requires { sequence < 2 ^ 64 - 1 }
-    ensures path { IfOk result (λ entries. string_bytes entries.0.0 ≡ path (key.Commitment name.now.0 name.now.1 sequence)) }
-    ensures value { IfOk result (λ entries. entries.0.1 ≡ value_bytes (CommitmentIs commitment.now)) }
-    ensures next_path { IfOk result (λ entries. string_bytes entries.1.0 ≡ path (key.NextSequenceSend name.now.0 name.now.1)) }
-    ensures next { IfOk result (λ entries. entries.1.1 ≡ value_bytes (NumberIs (sequence + 1))) }
+    ensures path { IfOk result (λ made. string_bytes made.0.0 ≡ commitment_path name.now sequence) }
+    ensures value { IfOk result (λ made. made.0.1 ≡ value_bytes (CommitmentIs commitment.now)) }
+    ensures next_path { IfOk result (λ made. string_bytes made.1.0 ≡ next_send_path name.now) }
+    ensures next { IfOk result (λ made. made.1.1 ≡ value_bytes (NumberIs (sequence + 1))) }
     ensures named { OnOk result (IsTrue (is_port name.now.0 && is_channel name.now.1)) }
     ensures room { OnOk result (2 ≤ store.new.room) }
     ensures same { store.new ≡ record store.old { room = store.new.room } }
@@ -210,9 +213,9 @@ fn send_on<Bill, P: Pays<Bill>>(
     commitment: Commitment,
 ) -> Result<(), Refusal>
     requires { IsSomeAnd (at pair_cmp name channels.old.pairs) (λ mine. mine.next_send < 2 ^ 64 - 1) }
-    ensures ok { OnOk result (IfSome (at pair_cmp name channels.old.pairs) (λ mine. channels.new.pairs ≡ with pair_cmp name (after_send commitment mine) channels.old.pairs)) }
+    ensures ok { OnOk result (SendsOn name commitment channels.old channels.new) }
     ensures paid { OnOk result (P.pays payer.old bill.now ≡ Ok payer.new) }
-    ensures err { IfErr result (λ refusal. (refusal ≡ NoMemory) ⊎ (P.pays payer.old bill.now ≡ Err refusal)) }
+    ensures err { IsRefusedAs (P.pays payer.old bill.now) result }
     ensures unchanged { OnErr result ((channels.new.pairs ≡ channels.old.pairs) × (payer.new ≡ payer.old)) }
 {
     let mut channel = take(channels, &name)?;
@@ -230,8 +233,8 @@ fn reserve_receive(
     sequence: u64,
 ) -> Result<(String, (String, Bytes)), Refusal>
     requires { is_ordered channel.now ≡ true → channel.now.next_recv < 2 ^ 64 - 1 }
-    ensures path { IfOk result (λ made. string_bytes made.0 ≡ path (key.Acknowledgement name.now.0 name.now.1 sequence)) }
-    ensures other { IfOk result (λ made. (string_bytes made.1.0, made.1.1) ≡ entry_of name.now.0 name.now.1 (part_after_receive sequence channel.now)) }
+    ensures path { IfOk result (λ made. string_bytes made.0 ≡ ack_path name.now sequence) }
+    ensures other { IfOk result (λ m. IsReceivedEntry name.now.0 name.now.1 sequence channel.now m.1) }
     ensures named { OnOk result (IsTrue (is_port name.now.0 && is_channel name.now.1)) }
     ensures fits { sequence < 2 ^ 64 }
     ensures room { OnOk result (2 ≤ store.new.room) }
@@ -254,12 +257,12 @@ fn receive_on<A: App>(
     packet: &Packet,
     room: &mut AckRoom,
 ) -> Result<AckCopies, Refusal>
-    requires some { IsSomeAnd (at pair_cmp name channels.old.pairs) (λ mine. is_ordered mine ≡ true → mine.next_recv < 2 ^ 64 - 1) }
+    requires some { IsSomeAnd (at pair_cmp name channels.old.pairs) (λ mine. CanCountRecv mine) }
     requires room { 1024 ≤ room.old }
-    ensures answer { IfOk result (λ acks. IfSome (at pair_cmp name channels.old.pairs) (λ mine. (acks.reply, app.new) ≡ A.receives app.old mine.end.version packet.now)) }
+    ensures answer { AnswersOn A.receives name channels.old app.old packet.now result app.new }
     ensures copy { IfOk result (λ acks. acks.copy ≡ acks.reply) }
     ensures value { IfOk result (λ acks. acks.value ≡ value_bytes (AckIs acks.reply)) }
-    ensures ok { IfOk result (λ acks. IfSome (at pair_cmp name channels.old.pairs) (λ mine. channels.new.pairs ≡ with pair_cmp name (after_receive packet.now.sequence acks.reply mine) channels.old.pairs)) }
+    ensures ok { ReceivesOn name packet.now.sequence result channels.old channels.new }
     ensures err { IsOkUnless result NoMemory }
     ensures unchanged { OnErr result ((channels.new.pairs ≡ channels.old.pairs) × (app.new ≡ app.old)) }
 {
@@ -278,8 +281,8 @@ fn reserve_acknowledged(
     sequence: u64,
 ) -> Result<(String, Option<(String, Bytes)>), Refusal>
     requires { is_ordered channel.now ≡ true → channel.now.next_ack < 2 ^ 64 - 1 }
-    ensures path { IfOk result (λ made. string_bytes made.0 ≡ path (key.Commitment name.now.0 name.now.1 sequence)) }
-    ensures other { IfOk result (λ made. option_map (λ entry. (string_bytes entry.0, entry.1)) made.1 ≡ option_map (entry_of name.now.0 name.now.1) (part_after_ack channel.now)) }
+    ensures path { IfOk result (λ made. string_bytes made.0 ≡ commitment_path name.now sequence) }
+    ensures other { IfOk result (λ made. IsAckedEntry name.now.0 name.now.1 channel.now made.1) }
     ensures named { OnOk result (IsTrue (is_port name.now.0 && is_channel name.now.1)) }
     ensures fits { sequence < 2 ^ 64 }
     ensures room { OnOk result (0 < store.new.room) }
@@ -299,10 +302,10 @@ fn acknowledge_on<A: App>(
     packet: &Packet,
     ack: &[u8],
 ) -> Result<(), Refusal>
-    requires { IsSomeAnd (at pair_cmp name channels.old.pairs) (λ mine. is_ordered mine ≡ true → mine.next_ack < 2 ^ 64 - 1) }
-    ensures ok { OnOk result (IfSome (at pair_cmp name channels.old.pairs) (λ mine. channels.new.pairs ≡ with pair_cmp name (after_ack packet.now.sequence mine) channels.old.pairs)) }
-    ensures told { OnOk result (IfSome (at pair_cmp name channels.old.pairs) (λ mine. A.is_acknowledged app.old mine.end.version packet.now ack.now ≡ Ok app.new)) }
-    ensures err { IfErr result (λ refusal. (refusal ≡ NoMemory) ⊎ IfSome (at pair_cmp name channels.old.pairs) (λ mine. A.is_acknowledged app.old mine.end.version packet.now ack.now ≡ Err refusal)) }
+    requires { IsSomeAnd (at pair_cmp name channels.old.pairs) (λ mine. CanCountAck mine) }
+    ensures ok { OnOk result (AcknowledgesOn name packet.now.sequence channels.old channels.new) }
+    ensures told { TellsAck A.is_acknowledged name channels.old app.old packet.now ack.now result app.new }
+    ensures err { IsAckRefusedOn A.is_acknowledged name channels.old app.old packet.now ack.now result }
     ensures unchanged { OnErr result ((channels.new.pairs ≡ channels.old.pairs) × (app.new ≡ app.old)) }
 {
     let mut channel = take(channels, &name)?;
@@ -319,8 +322,8 @@ fn reserve_timed_out(
     channel: &Channel,
     sequence: u64,
 ) -> Result<(String, Option<(String, Bytes)>), Refusal>
-    ensures path { IfOk result (λ made. string_bytes made.0 ≡ path (key.Commitment name.now.0 name.now.1 sequence)) }
-    ensures other { IfOk result (λ made. option_map (λ entry. (string_bytes entry.0, entry.1)) made.1 ≡ option_map (entry_of name.now.0 name.now.1) (part_after_timeout channel.now)) }
+    ensures path { IfOk result (λ made. string_bytes made.0 ≡ commitment_path name.now sequence) }
+    ensures other { IfOk result (λ made. IsClosedEntry name.now.0 name.now.1 channel.now made.1) }
     ensures named { OnOk result (IsTrue (is_port name.now.0 && is_channel name.now.1)) }
     ensures fits { sequence < 2 ^ 64 }
     ensures room { OnOk result (0 < store.new.room) }
@@ -340,9 +343,9 @@ fn time_out_on<A: App>(
     packet: &Packet,
 ) -> Result<(), Refusal>
     requires { IsSome (at pair_cmp name channels.old.pairs) }
-    ensures ok { OnOk result (IfSome (at pair_cmp name channels.old.pairs) (λ mine. channels.new.pairs ≡ with pair_cmp name (after_timeout packet.now.sequence mine) channels.old.pairs)) }
-    ensures told { OnOk result (IfSome (at pair_cmp name channels.old.pairs) (λ mine. A.times_out app.old mine.end.version packet.now ≡ Ok app.new)) }
-    ensures err { IfErr result (λ refusal. (refusal ≡ NoMemory) ⊎ IfSome (at pair_cmp name channels.old.pairs) (λ mine. A.times_out app.old mine.end.version packet.now ≡ Err refusal)) }
+    ensures ok { OnOk result (TimesOutOn name packet.now.sequence channels.old channels.new) }
+    ensures told { TellsTimeout A.times_out name channels.old app.old packet.now result app.new }
+    ensures err { IsTimeoutRefusedOn A.times_out name channels.old app.old packet.now result }
     ensures unchanged { OnErr result ((channels.new.pairs ≡ channels.old.pairs) × (app.new ≡ app.old)) }
 {
     let mut channel = take(channels, &name)?;

@@ -1,10 +1,10 @@
 //! The chains of a script, and how they begin.
 
-ghost use Rattle.std.specs.Prelude.{◌≡◌, ◌≤◌, ℕ, Some, false, length, map, slice_get, zip, IfOk, IfErr};
+ghost use Rattle.std.specs.Prelude.{◌≡◌, ◌≤◌, ℕ, Some, false, true, length, slice_get, IfOk, IfErr, IsErrOf};
 ghost use Rattle.serde_json.specs.View.{view};
-ghost use Rattle.ibc_machine.specs.chain.Genesis.{chain_state};
-ghost use Rattle.ibc_script.specs.Faults.{IsScriptFault};
-ghost use Rattle.ibc_script.specs.ScriptValues.{AreDifferent, AreEach, IsChainStart, IsHolding};
+ghost use Rattle.ibc_script.specs.Faults.{IsScriptFault, OnlyWhereNone};
+ghost use Rattle.ibc_script.specs.ReadValues.{AreChainStartsOf, AreEachOf, AreNoChainStarts, AreNoHoldings, IsNoChainStart, IsStartOf};
+ghost use Rattle.ibc_script.specs.ScriptValues.{AreDifferent, IsHolding};
 
 use super::{item_amount, item_name, parse_name};
 use crate::members::{has_only, item_list, list, number, text};
@@ -19,6 +19,7 @@ use std::alloc::Global;
 fn read_balance(alloc: Global, value: &Value) -> Result<(UserName, Denom, u128), Fault>
     ensures holding { IfOk result (λ holding. IsHolding holding (Some (view value.now))) }
     ensures faults { IfErr result IsScriptFault }
+    ensures bad { OnlyWhereNone result (λ holding. IsHolding holding (Some (view value.now))) }
 {
     let [user, denom, amount] = item_list(value)? else {
         return Err(Fault::BadScript);
@@ -28,8 +29,9 @@ fn read_balance(alloc: Global, value: &Value) -> Result<(UserName, Denom, u128),
 }
 
 fn read_balances(alloc: Global, values: &[Value]) -> Result<Vec<(UserName, Denom, u128)>, Fault>
-    ensures holdings { IfOk result (λ balances. AreEach IsHolding balances.items (map view values.now)) }
+    ensures holdings { IfOk result (λ balances. AreEachOf IsHolding balances.items values.now) }
     ensures faults { IfErr result IsScriptFault }
+    ensures bad { IsErrOf result Fault.BadScript → AreNoHoldings values.now }
 {
     let mut balances = Vec::with_capacity(alloc, values.len())?;
     for value in values {
@@ -39,8 +41,9 @@ fn read_balances(alloc: Global, values: &[Value]) -> Result<Vec<(UserName, Denom
 }
 
 fn read_chain(alloc: Global, value: &Value) -> Result<(ChainName, ChainStart), Fault>
-    ensures start { IfOk result (λ read. IsChainStart (read.0, chain_state read.1) (Some (view value.now))) }
+    ensures start { IfOk result (IsStartOf value.now) }
     ensures faults { IfErr result IsScriptFault }
+    ensures bad { IsErrOf result Fault.BadScript → IsNoChainStart value.now }
 {
     has_only(value, &["name", "time", "balances"])?;
     let time = number(value, "time")?;
@@ -52,7 +55,8 @@ fn read_chain(alloc: Global, value: &Value) -> Result<(ChainName, ChainStart), F
 
 // Whether a name is one of these.
 fn is_known(names: &[ChainName], name: &ChainName) -> bool
-    ensures { result ≡ false → (i : ℕ) → slice_get names.now i ≡ Some name.now → ⊥ }
+    ensures new { result ≡ false → (i : ℕ) → slice_get names.now i ≡ Some name.now → ⊥ }
+    ensures known { result ≡ true → (i : ℕ) × (slice_get names.now i ≡ Some name.now) }
 {
     names.contains(name)
 }
@@ -62,11 +66,12 @@ pub fn read_chains(
     alloc: Global,
     values: &[Value],
 ) -> Result<(Vec<ChainName>, Vec<ChainStart>), Fault>
-    ensures starts { IfOk result (λ r. AreEach IsChainStart (zip r.0.items (map chain_state r.1.items)) (map view values.now)) }
+    ensures starts { IfOk result (AreChainStartsOf values.now) }
     ensures different { IfOk result (λ r. AreDifferent r.0.items) }
     ensures named { IfOk result (λ r. length r.0.items ≡ length r.1.items) }
     ensures few { IfOk result (λ r. length r.0.items ≤ 8) }
     ensures faults { IfErr result IsScriptFault }
+    ensures bad { IsErrOf result Fault.BadScript → AreNoChainStarts values.now }
 {
     if values.len() > MOST_CHAINS {
         return Err(Fault::BadScript);

@@ -1,12 +1,10 @@
 //! The steps that send messages for channels.
 
 ghost use Rattle.std.specs.Prelude.{◌<◌, length, IfOk, IfErr, codes};
-ghost use Rattle.serde_json.specs.Find.{get};
-ghost use Rattle.serde_json.specs.View.{view};
-ghost use Rattle.ibc_script.specs.Faults.{IsScriptFault};
-ghost use Rattle.ibc_script.specs.ScriptValues.{AreFields, IsDraft, IsText, channel_end_fields, opening_fields};
-ghost use Rattle.ibc_script.specs.declared.draft.Draft.TheVariants as any_draft;
+ghost use Rattle.ibc_script.specs.Faults.{IsScriptFault, OnlyWhereNone};
+ghost use Rattle.ibc_script.specs.ScriptValues.{channel_end_fields};
 ghost use Rattle.ibc_script.specs.Scripts.{IsChannelAmong};
+ghost use Rattle.ibc_script.specs.StepReading.{HasFields, HasOpening, HasVersion, IsChannelDraft};
 
 use super::step_reader::StepReader;
 use crate::Fault;
@@ -18,9 +16,10 @@ use ibc_wire::{ChanCloseInit, ChanOpenInit};
 impl StepReader<'_> {
     /// The message for channels of this kind.
     pub fn channel_draft(&self, kind: &str) -> Result<ChannelDraft, Fault>
-        ensures draft { IfOk result (λ d. IsDraft kind.now self.now.names.now (view self.now.object.now) (any_draft.Channel d)) }
+        ensures draft { IfOk result (IsChannelDraft self.now kind.now) }
         ensures among { IfOk result (IsChannelAmong (length self.now.names.now)) }
         ensures faults { IfErr result IsScriptFault }
+        ensures bad { OnlyWhereNone result (IsChannelDraft self.now kind.now) }
     {
         match kind {
             "ChanOpenInit" => self.chan_open_init(),
@@ -35,17 +34,19 @@ impl StepReader<'_> {
 
     /// The port and the identifier of a channel's own end.
     fn own_end(&self) -> Result<(PortId, ChannelId), Fault>
-        ensures end { IfOk result (λ end. AreFields (channel_end_fields end.0 end.1) (view self.now.object.now)) }
+        ensures end { IfOk result (λ end. HasFields self.now (channel_end_fields end.0 end.1)) }
         ensures faults { IfErr result IsScriptFault }
+        ensures bad { OnlyWhereNone result (λ end. HasFields self.now (channel_end_fields end.0 end.1)) }
     {
         Ok((self.name("port")?, self.name("channel")?))
     }
 
     /// What the first two steps of a channel's handshake have in common.
     fn opening(&self) -> Result<ChanOpenInit, Fault>
-        ensures ends { IfOk result (λ m. AreFields (opening_fields m.port m.order m.connection m.peer_port) (view self.now.object.now)) }
-        ensures version { IfOk result (λ m. IsText m.version (get (codes "version") (view self.now.object.now))) }
+        ensures ends { IfOk result (HasOpening self.now) }
+        ensures version { IfOk result (HasVersion self.now) }
         ensures faults { IfErr result IsScriptFault }
+        ensures bad { OnlyWhereNone result (λ m. HasOpening self.now m × HasVersion self.now m) }
     {
         Ok(ChanOpenInit {
             order: self.order("order")?,
@@ -57,9 +58,10 @@ impl StepReader<'_> {
     }
 
     fn chan_open_init(&self) -> Result<ChannelDraft, Fault>
-        ensures draft { IfOk result (λ d. IsDraft (codes "ChanOpenInit") self.now.names.now (view self.now.object.now) (any_draft.Channel d)) }
+        ensures draft { IfOk result (IsChannelDraft self.now (codes "ChanOpenInit")) }
         ensures among { IfOk result (IsChannelAmong (length self.now.names.now)) }
         ensures faults { IfErr result IsScriptFault }
+        ensures bad { OnlyWhereNone result (IsChannelDraft self.now (codes "ChanOpenInit")) }
     {
         has_only(
             self.object,
@@ -77,9 +79,10 @@ impl StepReader<'_> {
     }
 
     fn chan_open_try(&self) -> Result<ChannelDraft, Fault>
-        ensures draft { IfOk result (λ d. IsDraft (codes "ChanOpenTry") self.now.names.now (view self.now.object.now) (any_draft.Channel d)) }
+        ensures draft { IfOk result (IsChannelDraft self.now (codes "ChanOpenTry")) }
         ensures among { IfOk result (IsChannelAmong (length self.now.names.now)) }
         ensures faults { IfErr result IsScriptFault }
+        ensures bad { OnlyWhereNone result (IsChannelDraft self.now (codes "ChanOpenTry")) }
     {
         has_only(
             self.object,
@@ -111,9 +114,10 @@ impl StepReader<'_> {
     }
 
     fn chan_open_ack(&self) -> Result<ChannelDraft, Fault>
-        ensures draft { IfOk result (λ d. IsDraft (codes "ChanOpenAck") self.now.names.now (view self.now.object.now) (any_draft.Channel d)) }
+        ensures draft { IfOk result (IsChannelDraft self.now (codes "ChanOpenAck")) }
         ensures among { IfOk result (IsChannelAmong (length self.now.names.now)) }
         ensures faults { IfErr result IsScriptFault }
+        ensures bad { OnlyWhereNone result (IsChannelDraft self.now (codes "ChanOpenAck")) }
     {
         has_only(
             self.object,
@@ -139,9 +143,10 @@ impl StepReader<'_> {
     }
 
     fn chan_open_confirm(&self) -> Result<ChannelDraft, Fault>
-        ensures draft { IfOk result (λ d. IsDraft (codes "ChanOpenConfirm") self.now.names.now (view self.now.object.now) (any_draft.Channel d)) }
+        ensures draft { IfOk result (IsChannelDraft self.now (codes "ChanOpenConfirm")) }
         ensures among { IfOk result (IsChannelAmong (length self.now.names.now)) }
         ensures faults { IfErr result IsScriptFault }
+        ensures bad { OnlyWhereNone result (IsChannelDraft self.now (codes "ChanOpenConfirm")) }
     {
         has_only(
             self.object,
@@ -157,9 +162,10 @@ impl StepReader<'_> {
     }
 
     fn chan_close_init(&self) -> Result<ChannelDraft, Fault>
-        ensures draft { IfOk result (λ d. IsDraft (codes "ChanCloseInit") self.now.names.now (view self.now.object.now) (any_draft.Channel d)) }
+        ensures draft { IfOk result (IsChannelDraft self.now (codes "ChanCloseInit")) }
         ensures among { IfOk result (IsChannelAmong (length self.now.names.now)) }
         ensures faults { IfErr result IsScriptFault }
+        ensures bad { OnlyWhereNone result (IsChannelDraft self.now (codes "ChanCloseInit")) }
     {
         has_only(self.object, &["do", "on", "port", "channel"])?;
         let (port, channel) = self.own_end()?;
@@ -167,9 +173,10 @@ impl StepReader<'_> {
     }
 
     fn chan_close_confirm(&self) -> Result<ChannelDraft, Fault>
-        ensures draft { IfOk result (λ d. IsDraft (codes "ChanCloseConfirm") self.now.names.now (view self.now.object.now) (any_draft.Channel d)) }
+        ensures draft { IfOk result (IsChannelDraft self.now (codes "ChanCloseConfirm")) }
         ensures among { IfOk result (IsChannelAmong (length self.now.names.now)) }
         ensures faults { IfErr result IsScriptFault }
+        ensures bad { OnlyWhereNone result (IsChannelDraft self.now (codes "ChanCloseConfirm")) }
     {
         has_only(
             self.object,

@@ -1,11 +1,9 @@
 //! The steps that send messages for clients.
 
 ghost use Rattle.std.specs.Prelude.{◌<◌, length, IfOk, IfErr, codes};
-ghost use Rattle.serde_json.specs.View.{view};
-ghost use Rattle.ibc_script.specs.Faults.{IsScriptFault};
-ghost use Rattle.ibc_script.specs.ScriptValues.{IsDraft};
-ghost use Rattle.ibc_script.specs.declared.draft.Draft.TheVariants as any_draft;
+ghost use Rattle.ibc_script.specs.Faults.{IsScriptFault, OnlyWhereNone};
 ghost use Rattle.ibc_script.specs.Scripts.{IsClientAmong};
+ghost use Rattle.ibc_script.specs.StepReading.{IsClientDraft};
 
 use super::step_reader::StepReader;
 use crate::Fault;
@@ -15,9 +13,10 @@ use crate::members::has_only;
 impl StepReader<'_> {
     /// The message for clients of this kind.
     pub fn client_draft(&self, kind: &str) -> Result<ClientDraft, Fault>
-        ensures draft { IfOk result (λ d. IsDraft kind.now self.now.names.now (view self.now.object.now) (any_draft.Client d)) }
+        ensures draft { IfOk result (IsClientDraft self.now kind.now) }
         ensures among { IfOk result (IsClientAmong (length self.now.names.now)) }
         ensures faults { IfErr result IsScriptFault }
+        ensures bad { OnlyWhereNone result (IsClientDraft self.now kind.now) }
     {
         match kind {
             "CreateClient" => self.create_client(),
@@ -27,9 +26,10 @@ impl StepReader<'_> {
     }
 
     fn create_client(&self) -> Result<ClientDraft, Fault>
-        ensures draft { IfOk result (λ d. IsDraft (codes "CreateClient") self.now.names.now (view self.now.object.now) (any_draft.Client d)) }
+        ensures draft { IfOk result (IsClientDraft self.now (codes "CreateClient")) }
         ensures among { IfOk result (IsClientAmong (length self.now.names.now)) }
         ensures faults { IfErr result IsScriptFault }
+        ensures bad { OnlyWhereNone result (IsClientDraft self.now (codes "CreateClient")) }
     {
         has_only(self.object, &["do", "on", "of"])?;
         Ok(ClientDraft::Create {
@@ -38,9 +38,10 @@ impl StepReader<'_> {
     }
 
     fn update_client(&self) -> Result<ClientDraft, Fault>
-        ensures draft { IfOk result (λ d. IsDraft (codes "UpdateClient") self.now.names.now (view self.now.object.now) (any_draft.Client d)) }
+        ensures draft { IfOk result (IsClientDraft self.now (codes "UpdateClient")) }
         ensures among { IfOk result (IsClientAmong (length self.now.names.now)) }
         ensures faults { IfErr result IsScriptFault }
+        ensures bad { OnlyWhereNone result (IsClientDraft self.now (codes "UpdateClient")) }
     {
         has_only(self.object, &["do", "on", "client", "height"])?;
         Ok(ClientDraft::Update {

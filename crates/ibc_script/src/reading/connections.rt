@@ -1,12 +1,11 @@
 //! The steps that send messages for connections.
 
 ghost use Rattle.std.specs.Prelude.{◌<◌, length, IfOk, IfErr, codes};
-ghost use Rattle.serde_json.specs.Find.{get};
-ghost use Rattle.serde_json.specs.View.{view};
-ghost use Rattle.ibc_script.specs.Faults.{IsScriptFault};
-ghost use Rattle.ibc_script.specs.ScriptValues.{IsDraft, IsText};
-ghost use Rattle.ibc_script.specs.declared.draft.Draft.TheVariants as any_draft;
+ghost use Rattle.ibc_ids.specs.Names.{is_client};
+ghost use Rattle.ibc_script.specs.Faults.{IsScriptFault, OnlyWhereNone};
+ghost use Rattle.ibc_script.specs.ScriptValues.{client_ends_fields};
 ghost use Rattle.ibc_script.specs.Scripts.{IsConnectionAmong};
+ghost use Rattle.ibc_script.specs.StepReading.{HasFields, HasName, IsConnectionDraft};
 
 use super::step_reader::StepReader;
 use crate::Fault;
@@ -17,9 +16,10 @@ use ibc_ids::ClientId;
 impl StepReader<'_> {
     /// The message for connections of this kind.
     pub fn connection_draft(&self, kind: &str) -> Result<ConnectionDraft, Fault>
-        ensures draft { IfOk result (λ d. IsDraft kind.now self.now.names.now (view self.now.object.now) (any_draft.Connection d)) }
+        ensures draft { IfOk result (IsConnectionDraft self.now kind.now) }
         ensures among { IfOk result (IsConnectionAmong (length self.now.names.now)) }
         ensures faults { IfErr result IsScriptFault }
+        ensures bad { OnlyWhereNone result (IsConnectionDraft self.now kind.now) }
     {
         match kind {
             "ConnOpenInit" => self.conn_open_init(),
@@ -32,17 +32,19 @@ impl StepReader<'_> {
 
     /// The clients of the two ends of a connection.
     fn two_clients(&self) -> Result<(ClientId, ClientId), Fault>
-        ensures own { IfOk result (λ clients. IsText clients.0 (get (codes "client") (view self.now.object.now))) }
-        ensures peer { IfOk result (λ clients. IsText clients.1 (get (codes "peer_client") (view self.now.object.now))) }
+        ensures own { IfOk result (λ both. HasName self.now (codes "client") is_client both.0) }
+        ensures peer { IfOk result (λ both. HasName self.now (codes "peer_client") is_client both.1) }
         ensures faults { IfErr result IsScriptFault }
+        ensures bad { OnlyWhereNone result (λ both. HasFields self.now (client_ends_fields both.0 both.1)) }
     {
         Ok((self.name("client")?, self.name("peer_client")?))
     }
 
     fn conn_open_init(&self) -> Result<ConnectionDraft, Fault>
-        ensures draft { IfOk result (λ d. IsDraft (codes "ConnOpenInit") self.now.names.now (view self.now.object.now) (any_draft.Connection d)) }
+        ensures draft { IfOk result (IsConnectionDraft self.now (codes "ConnOpenInit")) }
         ensures among { IfOk result (IsConnectionAmong (length self.now.names.now)) }
         ensures faults { IfErr result IsScriptFault }
+        ensures bad { OnlyWhereNone result (IsConnectionDraft self.now (codes "ConnOpenInit")) }
     {
         has_only(self.object, &["do", "on", "client", "peer_client"])?;
         let (client, peer_client) = self.two_clients()?;
@@ -53,9 +55,10 @@ impl StepReader<'_> {
     }
 
     fn conn_open_try(&self) -> Result<ConnectionDraft, Fault>
-        ensures draft { IfOk result (λ d. IsDraft (codes "ConnOpenTry") self.now.names.now (view self.now.object.now) (any_draft.Connection d)) }
+        ensures draft { IfOk result (IsConnectionDraft self.now (codes "ConnOpenTry")) }
         ensures among { IfOk result (IsConnectionAmong (length self.now.names.now)) }
         ensures faults { IfErr result IsScriptFault }
+        ensures bad { OnlyWhereNone result (IsConnectionDraft self.now (codes "ConnOpenTry")) }
     {
         has_only(
             self.object,
@@ -81,9 +84,10 @@ impl StepReader<'_> {
     }
 
     fn conn_open_ack(&self) -> Result<ConnectionDraft, Fault>
-        ensures draft { IfOk result (λ d. IsDraft (codes "ConnOpenAck") self.now.names.now (view self.now.object.now) (any_draft.Connection d)) }
+        ensures draft { IfOk result (IsConnectionDraft self.now (codes "ConnOpenAck")) }
         ensures among { IfOk result (IsConnectionAmong (length self.now.names.now)) }
         ensures faults { IfErr result IsScriptFault }
+        ensures bad { OnlyWhereNone result (IsConnectionDraft self.now (codes "ConnOpenAck")) }
     {
         has_only(
             self.object,
@@ -104,9 +108,10 @@ impl StepReader<'_> {
     }
 
     fn conn_open_confirm(&self) -> Result<ConnectionDraft, Fault>
-        ensures draft { IfOk result (λ d. IsDraft (codes "ConnOpenConfirm") self.now.names.now (view self.now.object.now) (any_draft.Connection d)) }
+        ensures draft { IfOk result (IsConnectionDraft self.now (codes "ConnOpenConfirm")) }
         ensures among { IfOk result (IsConnectionAmong (length self.now.names.now)) }
         ensures faults { IfErr result IsScriptFault }
+        ensures bad { OnlyWhereNone result (IsConnectionDraft self.now (codes "ConnOpenConfirm")) }
     {
         has_only(self.object, &["do", "on", "connection", "from", "height"])?;
         Ok(ConnectionDraft::OpenConfirm {

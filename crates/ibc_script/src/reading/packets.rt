@@ -1,12 +1,11 @@
 //! The steps that send messages for packets.
 
-ghost use Rattle.std.specs.Prelude.{◌<◌, ◌∷◌, [], codes, length, IfOk, IfErr, IsTrue};
-ghost use Rattle.serde_json.specs.Find.{get};
+ghost use Rattle.std.specs.Prelude.{◌<◌, codes, length, IfOk, IfErr, IsTrue};
 ghost use Rattle.serde_json.specs.View.{view};
-ghost use Rattle.ibc_script.specs.Faults.{IsScriptFault};
-ghost use Rattle.ibc_script.specs.ScriptValues.{AreFields, IsDraft, IsNote, IsPacket, has_only, source_fields};
-ghost use Rattle.ibc_script.specs.declared.draft.Draft.TheVariants as any_draft;
+ghost use Rattle.ibc_script.specs.Faults.{IsScriptFault, OnlyWhereNone};
+ghost use Rattle.ibc_script.specs.ScriptValues.{IsNote, has_only};
 ghost use Rattle.ibc_script.specs.Scripts.{IsPacketAmong};
+ghost use Rattle.ibc_script.specs.StepReading.{IsPacketDraft, IsPacketIn, IsProvedPacket, IsSourceIn, member_at, proved_packet_names};
 
 use super::item_name;
 use super::step_reader::StepReader;
@@ -20,17 +19,19 @@ use ibc_wire::SendNote;
 impl StepReader<'_> {
     /// The bytes that a member writes in base64.
     fn payload(&self, member: &str) -> Result<Bytes, Fault>
-        ensures note { IfOk result (λ bytes. IsNote bytes (get member.now (view self.now.object.now))) }
+        ensures note { IfOk result (λ bytes. IsNote bytes (member_at self.now member.now)) }
         ensures faults { IfErr result IsScriptFault }
+        ensures bad { OnlyWhereNone result (λ bytes. IsNote bytes (member_at self.now member.now)) }
     {
         payload_of(self.alloc, text(self.object, member)?)?.ok_or(Fault::BadScript)
     }
 
     /// The packet that the member `packet` names: `[chain, port, channel, sequence]`.
     fn packet(&self) -> Result<SentPacket, Fault>
-        ensures packet { IfOk result (λ sent. IsPacket self.now.names.now sent (get (codes "packet") (view self.now.object.now))) }
+        ensures packet { IfOk result (IsPacketIn self.now) }
         ensures among { IfOk result (λ sent. sent.chain < length self.now.names.now) }
         ensures faults { IfErr result IsScriptFault }
+        ensures bad { OnlyWhereNone result (IsPacketIn self.now) }
     {
         let [chain, port, channel, sequence] = list(self.object, "packet")? else {
             return Err(Fault::BadScript);
@@ -45,12 +46,13 @@ impl StepReader<'_> {
 
     /// The packet of a step with the members of an acknowledgement or a timeout, and the height that proves it.
     fn packet_from(&self) -> Result<(SentPacket, ProofSource), Fault>
-        ensures only { IfOk result (λ _. IsTrue (has_only (codes "do" ∷ codes "on" ∷ codes "packet" ∷ codes "from" ∷ codes "height" ∷ []) (view self.now.object.now))) }
-        ensures packet { IfOk result (λ read. IsPacket self.now.names.now read.0 (get (codes "packet") (view self.now.object.now))) }
-        ensures source { IfOk result (λ read. AreFields (source_fields self.now.names.now read.1) (view self.now.object.now)) }
+        ensures only { IfOk result (λ _. IsTrue (has_only proved_packet_names (view self.now.object.now))) }
+        ensures packet { IfOk result (λ read. IsPacketIn self.now read.0) }
+        ensures source { IfOk result (λ read. IsSourceIn self.now read.1) }
         ensures sent { IfOk result (λ read. read.0.chain < length self.now.names.now) }
         ensures from { IfOk result (λ read. read.1.chain < length self.now.names.now) }
         ensures faults { IfErr result IsScriptFault }
+        ensures bad { OnlyWhereNone result (IsProvedPacket self.now) }
     {
         has_only(self.object, &["do", "on", "packet", "from", "height"])?;
         let from = self.origin()?;
@@ -59,9 +61,10 @@ impl StepReader<'_> {
 
     /// The message for packets of this kind.
     pub fn packet_draft(&self, kind: &str) -> Result<PacketDraft, Fault>
-        ensures draft { IfOk result (λ d. IsDraft kind.now self.now.names.now (view self.now.object.now) (any_draft.Packet d)) }
+        ensures draft { IfOk result (IsPacketDraft self.now kind.now) }
         ensures among { IfOk result (IsPacketAmong (length self.now.names.now)) }
         ensures faults { IfErr result IsScriptFault }
+        ensures bad { OnlyWhereNone result (IsPacketDraft self.now kind.now) }
     {
         match kind {
             "Transfer" => self.transfer(),
@@ -76,9 +79,10 @@ impl StepReader<'_> {
     }
 
     fn send_note(&self) -> Result<PacketDraft, Fault>
-        ensures draft { IfOk result (λ d. IsDraft (codes "SendNote") self.now.names.now (view self.now.object.now) (any_draft.Packet d)) }
+        ensures draft { IfOk result (IsPacketDraft self.now (codes "SendNote")) }
         ensures among { IfOk result (IsPacketAmong (length self.now.names.now)) }
         ensures faults { IfErr result IsScriptFault }
+        ensures bad { OnlyWhereNone result (IsPacketDraft self.now (codes "SendNote")) }
     {
         has_only(
             self.object,
@@ -100,9 +104,10 @@ impl StepReader<'_> {
     }
 
     fn recv_packet(&self) -> Result<PacketDraft, Fault>
-        ensures draft { IfOk result (λ d. IsDraft (codes "RecvPacket") self.now.names.now (view self.now.object.now) (any_draft.Packet d)) }
+        ensures draft { IfOk result (IsPacketDraft self.now (codes "RecvPacket")) }
         ensures among { IfOk result (IsPacketAmong (length self.now.names.now)) }
         ensures faults { IfErr result IsScriptFault }
+        ensures bad { OnlyWhereNone result (IsPacketDraft self.now (codes "RecvPacket")) }
     {
         has_only(self.object, &["do", "on", "packet", "height"])?;
         Ok(PacketDraft::Recv {
@@ -112,27 +117,30 @@ impl StepReader<'_> {
     }
 
     fn ack_packet(&self) -> Result<PacketDraft, Fault>
-        ensures draft { IfOk result (λ d. IsDraft (codes "AckPacket") self.now.names.now (view self.now.object.now) (any_draft.Packet d)) }
+        ensures draft { IfOk result (IsPacketDraft self.now (codes "AckPacket")) }
         ensures among { IfOk result (IsPacketAmong (length self.now.names.now)) }
         ensures faults { IfErr result IsScriptFault }
+        ensures bad { OnlyWhereNone result (IsPacketDraft self.now (codes "AckPacket")) }
     {
         let (packet, from) = self.packet_from()?;
         Ok(PacketDraft::Ack { packet, from })
     }
 
     fn timeout(&self) -> Result<PacketDraft, Fault>
-        ensures draft { IfOk result (λ d. IsDraft (codes "Timeout") self.now.names.now (view self.now.object.now) (any_draft.Packet d)) }
+        ensures draft { IfOk result (IsPacketDraft self.now (codes "Timeout")) }
         ensures among { IfOk result (IsPacketAmong (length self.now.names.now)) }
         ensures faults { IfErr result IsScriptFault }
+        ensures bad { OnlyWhereNone result (IsPacketDraft self.now (codes "Timeout")) }
     {
         let (packet, from) = self.packet_from()?;
         Ok(PacketDraft::Timeout { packet, from })
     }
 
     fn timeout_on_close(&self) -> Result<PacketDraft, Fault>
-        ensures draft { IfOk result (λ d. IsDraft (codes "TimeoutOnClose") self.now.names.now (view self.now.object.now) (any_draft.Packet d)) }
+        ensures draft { IfOk result (IsPacketDraft self.now (codes "TimeoutOnClose")) }
         ensures among { IfOk result (IsPacketAmong (length self.now.names.now)) }
         ensures faults { IfErr result IsScriptFault }
+        ensures bad { OnlyWhereNone result (IsPacketDraft self.now (codes "TimeoutOnClose")) }
     {
         let (packet, from) = self.packet_from()?;
         Ok(PacketDraft::TimeoutOnClose { packet, from })

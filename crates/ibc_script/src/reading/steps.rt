@@ -1,11 +1,11 @@
 //! The steps of a script.
 
-ghost use Rattle.std.specs.Prelude.{◌≤◌, ◌<◌, Some, codes, length, map, All, IfOk, IfErr};
-ghost use Rattle.serde_json.specs.Find.{get};
-ghost use Rattle.serde_json.specs.View.{view};
-ghost use Rattle.ibc_script.specs.Faults.{IsScriptFault};
-ghost use Rattle.ibc_script.specs.ScriptValues.{AreEach, IsDraft, IsStepObject, IsText};
+ghost use Rattle.std.specs.Prelude.{◌≤◌, codes, length, All, IfOk, IfErr, IsErrOf};
+ghost use Rattle.ibc_script.specs.Faults.{IsScriptFault, OnlyWhereNone};
+ghost use Rattle.ibc_script.specs.ReadValues.{AreEachOf, AreNoSteps};
+ghost use Rattle.ibc_script.specs.ScriptValues.{AreDifferent, IsStepObject, IsText};
 ghost use Rattle.ibc_script.specs.Scripts.{IsAmong, IsDraftAmong};
+ghost use Rattle.ibc_script.specs.StepReading.{IsDraftIn, IsNoMessage, IsReadStep, member_at};
 
 use super::step_reader::StepReader;
 use crate::members::{has_only, optional_number, text};
@@ -16,10 +16,11 @@ use std::alloc::Global;
 
 impl StepReader<'_> {
     fn block(&self) -> Result<Step, Fault>
-        requires { IsText (codes "Block") (get (codes "do") (view self.now.object.now)) }
-        ensures step { IfOk result (λ step. IsStepObject self.now.names.now step (Some (view self.now.object.now))) }
+        requires { IsText (codes "Block") (member_at self.now (codes "do")) }
+        ensures step { IfOk result (IsReadStep self.now) }
         ensures among { IfOk result (IsAmong (length self.now.names.now)) }
         ensures faults { IfErr result IsScriptFault }
+        ensures bad { OnlyWhereNone result (IsReadStep self.now) }
     {
         has_only(self.object, &["do", "on", "time"])?;
         Ok(Step::Block {
@@ -29,10 +30,11 @@ impl StepReader<'_> {
     }
 
     fn root(&self) -> Result<Step, Fault>
-        requires { IsText (codes "root") (get (codes "do") (view self.now.object.now)) }
-        ensures step { IfOk result (λ step. IsStepObject self.now.names.now step (Some (view self.now.object.now))) }
+        requires { IsText (codes "root") (member_at self.now (codes "do")) }
+        ensures step { IfOk result (IsReadStep self.now) }
         ensures among { IfOk result (IsAmong (length self.now.names.now)) }
         ensures faults { IfErr result IsScriptFault }
+        ensures bad { OnlyWhereNone result (IsReadStep self.now) }
     {
         has_only(self.object, &["do", "on", "height"])?;
         Ok(Step::Root {
@@ -42,10 +44,11 @@ impl StepReader<'_> {
     }
 
     fn prove(&self) -> Result<Step, Fault>
-        requires { IsText (codes "prove") (get (codes "do") (view self.now.object.now)) }
-        ensures step { IfOk result (λ step. IsStepObject self.now.names.now step (Some (view self.now.object.now))) }
+        requires { IsText (codes "prove") (member_at self.now (codes "do")) }
+        ensures step { IfOk result (IsReadStep self.now) }
         ensures among { IfOk result (IsAmong (length self.now.names.now)) }
         ensures faults { IfErr result IsScriptFault }
+        ensures bad { OnlyWhereNone result (IsReadStep self.now) }
     {
         has_only(self.object, &["do", "on", "height", "path"])?;
         Ok(Step::Prove {
@@ -56,10 +59,11 @@ impl StepReader<'_> {
     }
 
     fn totals(&self) -> Result<Step, Fault>
-        requires { IsText (codes "totals") (get (codes "do") (view self.now.object.now)) }
-        ensures step { IfOk result (λ step. IsStepObject self.now.names.now step (Some (view self.now.object.now))) }
+        requires { IsText (codes "totals") (member_at self.now (codes "do")) }
+        ensures step { IfOk result (IsReadStep self.now) }
         ensures among { IfOk result (IsAmong (length self.now.names.now)) }
         ensures faults { IfErr result IsScriptFault }
+        ensures bad { OnlyWhereNone result (IsReadStep self.now) }
     {
         has_only(self.object, &["do", "on", "channel", "denom"])?;
         Ok(Step::Totals {
@@ -70,10 +74,11 @@ impl StepReader<'_> {
     }
 
     fn open(&self) -> Result<Step, Fault>
-        requires { IsText (codes "open") (get (codes "do") (view self.now.object.now)) }
-        ensures step { IfOk result (λ step. IsStepObject self.now.names.now step (Some (view self.now.object.now))) }
+        requires { IsText (codes "open") (member_at self.now (codes "do")) }
+        ensures step { IfOk result (IsReadStep self.now) }
         ensures among { IfOk result (IsAmong (length self.now.names.now)) }
         ensures faults { IfErr result IsScriptFault }
+        ensures bad { OnlyWhereNone result (IsReadStep self.now) }
     {
         has_only(self.object, &["do", "chains", "app"])?;
         let (first, second) = self.two_chains("chains")?;
@@ -85,10 +90,11 @@ impl StepReader<'_> {
     }
 
     fn relay(&self) -> Result<Step, Fault>
-        requires { IsText (codes "relay") (get (codes "do") (view self.now.object.now)) }
-        ensures step { IfOk result (λ step. IsStepObject self.now.names.now step (Some (view self.now.object.now))) }
+        requires { IsText (codes "relay") (member_at self.now (codes "do")) }
+        ensures step { IfOk result (IsReadStep self.now) }
         ensures among { IfOk result (IsAmong (length self.now.names.now)) }
         ensures faults { IfErr result IsScriptFault }
+        ensures bad { OnlyWhereNone result (IsReadStep self.now) }
     {
         has_only(self.object, &["do", "chains", "turns"])?;
         let (first, second) = self.two_chains("chains")?;
@@ -101,9 +107,10 @@ impl StepReader<'_> {
 
     /// The message of a step whose `do` is the name of one.
     fn draft(&self, kind: &str) -> Result<Draft, Fault>
-        ensures draft { IfOk result (IsDraft kind.now self.now.names.now (view self.now.object.now)) }
+        ensures draft { IfOk result (IsDraftIn self.now kind.now) }
         ensures among { IfOk result (IsDraftAmong (length self.now.names.now)) }
         ensures faults { IfErr result IsScriptFault }
+        ensures bad { OnlyWhereNone result (IsDraftIn self.now kind.now) }
     {
         if kind.ends_with("Client") {
             self.client_draft(kind).map(Draft::Client)
@@ -117,10 +124,11 @@ impl StepReader<'_> {
     }
 
     fn message(&self, kind: &str) -> Result<Step, Fault>
-        requires { IsText kind.now (get (codes "do") (view self.now.object.now)) }
-        ensures step { IfOk result (λ step. IsStepObject self.now.names.now step (Some (view self.now.object.now))) }
+        requires { IsText kind.now (member_at self.now (codes "do")) }
+        ensures step { IfOk result (IsReadStep self.now) }
         ensures among { IfOk result (IsAmong (length self.now.names.now)) }
         ensures faults { IfErr result IsScriptFault }
+        ensures bad { IsErrOf result Fault.BadScript → IsNoMessage self.now }
     {
         Ok(Step::Message {
             on: self.chain("on")?,
@@ -129,9 +137,10 @@ impl StepReader<'_> {
     }
 
     fn step(&self) -> Result<Step, Fault>
-        ensures step { IfOk result (λ step. IsStepObject self.now.names.now step (Some (view self.now.object.now))) }
+        ensures step { IfOk result (IsReadStep self.now) }
         ensures among { IfOk result (IsAmong (length self.now.names.now)) }
         ensures faults { IfErr result IsScriptFault }
+        ensures bad { OnlyWhereNone result (IsReadStep self.now) }
     {
         match text(self.object, "do")? {
             "Block" => self.block(),
@@ -147,11 +156,13 @@ impl StepReader<'_> {
 
 /// The steps of a script, each of which names chains of the script alone.
 pub fn read_steps(alloc: Global, names: &[ChainName], values: &[Value]) -> Result<Vec<Step>, Fault>
-    requires { length names.now ≤ 8 }
-    ensures steps { IfOk result (λ steps. AreEach (IsStepObject names.now) steps.items (map view values.now)) }
+    requires few { length names.now ≤ 8 }
+    requires different { AreDifferent names.now }
+    ensures steps { IfOk result (λ steps. AreEachOf (IsStepObject names.now) steps.items values.now) }
     ensures few { IfOk result (λ steps. length steps.items ≤ 10000) }
     ensures among { IfOk result (λ steps. All (IsAmong (length names.now)) steps.items) }
     ensures faults { IfErr result IsScriptFault }
+    ensures bad { IsErrOf result Fault.BadScript → AreNoSteps names.now values.now }
 {
     if values.len() > MOST_STEPS {
         return Err(Fault::BadScript);

@@ -1,13 +1,14 @@
 //! The steps that send tokens.
 
-ghost use Rattle.std.specs.Prelude.{Some, codes, length, map, IfOk, IfErr, IsTrue};
-ghost use Rattle.serde_json.specs.Find.{get};
+ghost use Rattle.std.specs.Prelude.{Some, codes, length, IfOk, IfErr, IsErrOf, IsTrue};
 ghost use Rattle.serde_json.specs.View.{view};
+ghost use Rattle.ibc_ids.specs.Names.{is_channel, is_receiver, is_user};
 ghost use Rattle.ibc_wire.specs.Tokens.{is_listed};
-ghost use Rattle.ibc_script.specs.Faults.{IsScriptFault};
-ghost use Rattle.ibc_script.specs.ScriptValues.{AreEach, AreFields, IsDraft, IsText, IsTextIfThere, IsToken, timeout_fields};
-ghost use Rattle.ibc_script.specs.declared.draft.Draft.TheVariants as any_draft;
+ghost use Rattle.ibc_script.specs.Faults.{IsScriptFault, OnlyWhereNone};
+ghost use Rattle.ibc_script.specs.ReadValues.{AreEachOf, AreNoTokens};
+ghost use Rattle.ibc_script.specs.ScriptValues.{IsMemo, IsToken};
 ghost use Rattle.ibc_script.specs.Scripts.{IsPacketAmong};
+ghost use Rattle.ibc_script.specs.StepReading.{HasName, HasSending, HasTimeouts, IsPacketDraft, member_at};
 
 use super::step_reader::StepReader;
 use super::{item_amount, item_name, parse_name, read_amount};
@@ -23,6 +24,7 @@ use std::alloc::Global;
 fn read_token(alloc: Global, value: &Value) -> Result<Token, Fault>
     ensures token { IfOk result (λ token. IsToken token (Some (view value.now))) }
     ensures faults { IfErr result IsScriptFault }
+    ensures bad { OnlyWhereNone result (λ token. IsToken token (Some (view value.now))) }
 {
     let [denom, amount] = item_list(value)? else {
         return Err(Fault::BadScript);
@@ -33,9 +35,10 @@ fn read_token(alloc: Global, value: &Value) -> Result<Token, Fault>
 }
 
 fn read_tokens(alloc: Global, values: &[Value]) -> Result<Tokens, Fault>
-    ensures tokens { IfOk result (λ tokens. AreEach IsToken tokens (map view values.now)) }
+    ensures tokens { IfOk result (λ tokens. AreEachOf IsToken tokens values.now) }
     ensures listed { IfOk result (λ tokens. IsTrue (is_listed tokens)) }
     ensures faults { IfErr result IsScriptFault }
+    ensures bad { IsErrOf result Fault.BadScript → AreNoTokens values.now }
 {
     let mut tokens = Vec::with_capacity(alloc, values.len())?;
     for value in values {
@@ -62,19 +65,21 @@ struct Sending {
 impl StepReader<'_> {
     /// The memo of a transfer, the empty one where the step has none.
     fn memo(&self) -> Result<Memo, Fault>
-        ensures memo { IfOk result (λ memo. IsTextIfThere memo (get (codes "memo") (view self.now.object.now))) }
+        ensures memo { IfOk result (λ memo. IsMemo memo (member_at self.now (codes "memo"))) }
         ensures faults { IfErr result IsScriptFault }
+        ensures bad { OnlyWhereNone result (λ memo. IsMemo memo (member_at self.now (codes "memo"))) }
     {
         parse_name(self.alloc, text_or_empty(self.object, "memo")?)
     }
 
     fn sending(&self) -> Result<Sending, Fault>
-        ensures channel { IfOk result (λ s. IsText s.channel (get (codes "channel") (view self.now.object.now))) }
-        ensures user { IfOk result (λ s. IsText s.user (get (codes "user") (view self.now.object.now))) }
-        ensures receiver { IfOk result (λ s. IsText s.receiver (get (codes "receiver") (view self.now.object.now))) }
-        ensures memo { IfOk result (λ s. IsTextIfThere s.memo (get (codes "memo") (view self.now.object.now))) }
-        ensures timeouts { IfOk result (λ s. AreFields (timeout_fields s.timeout_height s.timeout_time) (view self.now.object.now)) }
+        ensures channel { IfOk result (λ s. HasName self.now (codes "channel") is_channel s.channel) }
+        ensures user { IfOk result (λ s. HasName self.now (codes "user") is_user s.user) }
+        ensures receiver { IfOk result (λ s. HasName self.now (codes "receiver") is_receiver s.receiver) }
+        ensures memo { IfOk result (λ s. IsMemo s.memo (member_at self.now (codes "memo"))) }
+        ensures timeouts { IfOk result (λ s. HasTimeouts self.now s.timeout_height s.timeout_time) }
         ensures faults { IfErr result IsScriptFault }
+        ensures bad { OnlyWhereNone result (HasSending self.now) }
     {
         Ok(Sending {
             timeout_height: self.number("timeout_height")?,
@@ -87,19 +92,20 @@ impl StepReader<'_> {
     }
 
     pub fn transfer(&self) -> Result<PacketDraft, Fault>
-        ensures draft { IfOk result (λ d. IsDraft (codes "Transfer") self.now.names.now (view self.now.object.now) (any_draft.Packet d)) }
+        ensures draft { IfOk result (IsPacketDraft self.now (codes "Transfer")) }
         ensures among { IfOk result (IsPacketAmong (length self.now.names.now)) }
         ensures faults { IfErr result IsScriptFault }
+        ensures bad { OnlyWhereNone result (IsPacketDraft self.now (codes "Transfer")) }
     {
         has_only(
             self.object,
             &[
                 "do",
                 "on",
-                "channel",
-                "user",
                 "denom",
                 "amount",
+                "channel",
+                "user",
                 "receiver",
                 "memo",
                 "timeout_height",
@@ -122,18 +128,19 @@ impl StepReader<'_> {
     }
 
     pub fn transfer_many(&self) -> Result<PacketDraft, Fault>
-        ensures draft { IfOk result (λ d. IsDraft (codes "TransferMany") self.now.names.now (view self.now.object.now) (any_draft.Packet d)) }
+        ensures draft { IfOk result (IsPacketDraft self.now (codes "TransferMany")) }
         ensures among { IfOk result (IsPacketAmong (length self.now.names.now)) }
         ensures faults { IfErr result IsScriptFault }
+        ensures bad { OnlyWhereNone result (IsPacketDraft self.now (codes "TransferMany")) }
     {
         has_only(
             self.object,
             &[
                 "do",
                 "on",
+                "tokens",
                 "channel",
                 "user",
-                "tokens",
                 "receiver",
                 "memo",
                 "timeout_height",

@@ -2,7 +2,7 @@
 
 ghost use Rattle.std.specs.Prelude.{◌≡◌, IfOk, IsOkUnless};
 ghost use Rattle.ibc_script_cli.specs.Completing.{header_from, IsHeader, MakesClientMessage};
-ghost use Rattle.ibc_script.specs.declared.draft.ClientDraft.TheVariants as client_draft;
+ghost use Rattle.ibc_script_cli.specs.Completers.{MakesUpdate, findings};
 
 use super::Completer;
 use crate::{Chains, CommittedBlock};
@@ -35,7 +35,7 @@ impl<C: Chains + Drop> Completer<'_, C> {
     /// The header that an update of a client on a chain names. Where there is no such client, it is an empty one of the
     /// chain itself.
     fn header(&self, on: u8, state: Option<ClientState>, height: u64) -> Header
-        ensures { IsHeader (C.known.answers self.now.chains.now) on height state result }
+        ensures { IsHeader (findings C.known self.now) on height state result }
     {
         match state {
             Some(state) => {
@@ -47,7 +47,7 @@ impl<C: Chains + Drop> Completer<'_, C> {
     }
 
     fn update_client(&self, on: u8, client: ClientId, height: u64) -> Result<Message, Fault>
-        ensures made { IfOk result (MakesClientMessage (C.known.answers self.now.chains.now) on (client_draft.Update client height)) }
+        ensures made { IfOk result (MakesUpdate C.known self.now on client height) }
         ensures err { IsOkUnless result Fault.NoMemory }
     {
         let state = self.standing(on, Key::ClientState(client.clone()?))?;
@@ -57,7 +57,7 @@ impl<C: Chains + Drop> Completer<'_, C> {
 
     /// The message for clients that a step of a chain sends. Fault: `NoMemory`.
     pub fn client_message(&self, on: u8, draft: ClientDraft) -> Result<Message, Fault>
-        ensures made { IfOk result (MakesClientMessage (C.known.answers self.now.chains.now) on draft) }
+        ensures made { IfOk result (MakesClientMessage (findings C.known self.now) on draft) }
         ensures err { IsOkUnless result Fault.NoMemory }
     {
         match draft {

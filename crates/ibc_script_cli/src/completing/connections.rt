@@ -1,8 +1,9 @@
 //! Messages for connections.
 
 ghost use Rattle.std.specs.Prelude.{◌≡◌, Some, IfOk, IsOkUnless};
-ghost use Rattle.ibc_script_cli.specs.Completing.{connection_message, peer_connection_key, AreBothProofs, AreConnectionProofs, IsConnectionOf, MakesConnectionMessage};
-ghost use Rattle.ibc_script.specs.declared.draft.ConnectionDraft.TheVariants as connection_draft;
+ghost use Rattle.ibc_script_cli.specs.Completing.{connection_message, peer_connection_key, IsConnectionOf, MakesConnectionMessage};
+ghost use Rattle.ibc_script_cli.specs.Completers.{ShowsAck, ShowsBoth, ShowsConfirm, ShowsConnection, findings};
+ghost use Rattle.ibc_script.specs.declared.draft.ConnectionDraft.TheVariants as step;
 
 use super::{ClientClaim, Completer};
 use crate::Chains;
@@ -42,71 +43,93 @@ fn peer_connection_key(own: ConnectionEnd) -> Option<Key>
     }
 }
 
+// The message of a step ConnOpenTry with what is shown of the peer.
+fn open_try_message(
+    client: ClientId,
+    peer_client: ClientId,
+    peer_connection: ConnectionId,
+    from: ProofSource,
+    shown: Shown,
+) -> Option<Message>
+    ensures { result ≡ connection_message (step.OpenTry client peer_client peer_connection from) shown.end shown.claim }
+{
+    let Shown { end, claim } = shown;
+    let (proof_end, claim) = (end?, claim?);
+    Some(Message::ConnOpenTry(ConnOpenTry {
+        client,
+        peer_client,
+        peer_connection,
+        claim: claim.state,
+        height: from.height,
+        proof_end,
+        proof_client: claim.proof,
+    }))
+}
+
+// The message of a step ConnOpenAck with what is shown of the peer.
+fn open_ack_message(
+    connection: ConnectionId,
+    peer_connection: ConnectionId,
+    from: ProofSource,
+    shown: Shown,
+) -> Option<Message>
+    ensures { result ≡ connection_message (step.OpenAck connection peer_connection from) shown.end shown.claim }
+{
+    let Shown { end, claim } = shown;
+    let (proof_end, claim) = (end?, claim?);
+    Some(Message::ConnOpenAck(ConnOpenAck {
+        connection,
+        peer_connection,
+        claim: claim.state,
+        height: from.height,
+        proof_end,
+        proof_client: claim.proof,
+    }))
+}
+
+// The message of a step ConnOpenConfirm with what is shown of the peer.
+fn open_confirm_message(
+    connection: ConnectionId,
+    from: ProofSource,
+    shown: Shown,
+) -> Option<Message>
+    ensures { result ≡ connection_message (step.OpenConfirm connection from) shown.end shown.claim }
+{
+    let proof = shown.end?;
+    Some(Message::ConnOpenConfirm(ConnOpenConfirm {
+        connection,
+        height: from.height,
+        proof,
+    }))
+}
+
 /// The message that a step becomes with what is shown of the peer, `None` where something that it needs isn't there.
 fn connection_message(draft: ConnectionDraft, shown: Shown) -> Option<Message>
     ensures { result ≡ connection_message draft shown.end shown.claim }
 {
-    let Shown { end, claim } = shown;
-    match (draft, end, claim) {
-        (
-            ConnectionDraft::OpenInit {
-                client,
-                peer_client,
-            },
-            _,
-            _,
-        ) => {
+    match draft {
+        ConnectionDraft::OpenInit {
+            client,
+            peer_client,
+        } => {
             Some(Message::ConnOpenInit(ConnOpenInit {
                 client,
                 peer_client,
             }))
         }
-        (
-            ConnectionDraft::OpenTry {
-                client,
-                peer_client,
-                peer_connection,
-                from,
-            },
-            Some(proof_end),
-            Some(claim),
-        ) => Some(Message::ConnOpenTry(ConnOpenTry {
+        ConnectionDraft::OpenTry {
             client,
             peer_client,
             peer_connection,
-            claim: claim.state,
-            height: from.height,
-            proof_end,
-            proof_client: claim.proof,
-        })),
-        (
-            ConnectionDraft::OpenAck {
-                connection,
-                peer_connection,
-                from,
-            },
-            Some(proof_end),
-            Some(claim),
-        ) => Some(Message::ConnOpenAck(ConnOpenAck {
+            from,
+        } => open_try_message(client, peer_client, peer_connection, from, shown),
+        ConnectionDraft::OpenAck {
             connection,
             peer_connection,
-            claim: claim.state,
-            height: from.height,
-            proof_end,
-            proof_client: claim.proof,
-        })),
-        (ConnectionDraft::OpenConfirm { connection, from }, Some(proof), _) => {
-            Some(Message::ConnOpenConfirm(ConnOpenConfirm {
-                connection,
-                height: from.height,
-                proof,
-            }))
-        }
-        (draft, end, claim) => {
-            drop(draft);
-            drop(end);
-            drop(claim);
-            None
+            from,
+        } => open_ack_message(connection, peer_connection, from, shown),
+        ConnectionDraft::OpenConfirm { connection, from } => {
+            open_confirm_message(connection, from, shown)
         }
     }
 }
@@ -118,7 +141,7 @@ impl<C: Chains + Drop> Completer<'_, C> {
         on: u8,
         connection: &ConnectionId,
     ) -> Result<Option<ConnectionEnd>, Fault>
-        ensures found { IfOk result (IsConnectionOf (C.known.answers self.now.chains.now) on connection.now) }
+        ensures found { IfOk result (IsConnectionOf (findings C.known self.now) on connection.now) }
         ensures err { IsOkUnless result Fault.NoMemory }
     {
         self.standing(on, Key::Connection(connection.clone()?))
@@ -131,7 +154,7 @@ impl<C: Chains + Drop> Completer<'_, C> {
         peer_connection: &ConnectionId,
         peer_client: &ClientId,
     ) -> Result<Shown, Fault>
-        ensures shown { IfOk result (λ shown. AreBothProofs (C.known.answers self.now.chains.now) from peer_connection.now peer_client.now shown.end shown.claim) }
+        ensures shown { IfOk result (ShowsBoth C.known self.now from peer_connection.now peer_client.now) }
         ensures err { IsOkUnless result Fault.NoMemory }
     {
         let end = self.proof(from, Key::Connection(peer_connection.clone()?))?;
@@ -152,7 +175,7 @@ impl<C: Chains + Drop> Completer<'_, C> {
         peer_connection: &ConnectionId,
         from: ProofSource,
     ) -> Result<Shown, Fault>
-        ensures shown { IfOk result (λ shown. AreConnectionProofs (C.known.answers self.now.chains.now) on (connection_draft.OpenAck connection.now peer_connection.now from) shown.end shown.claim) }
+        ensures shown { IfOk result (ShowsAck C.known self.now on connection.now peer_connection.now from) }
         ensures err { IsOkUnless result Fault.NoMemory }
     {
         match self.own_connection(on, connection)? {
@@ -172,7 +195,7 @@ impl<C: Chains + Drop> Completer<'_, C> {
         connection: &ConnectionId,
         from: ProofSource,
     ) -> Result<Shown, Fault>
-        ensures shown { IfOk result (λ shown. AreConnectionProofs (C.known.answers self.now.chains.now) on (connection_draft.OpenConfirm connection.now from) shown.end shown.claim) }
+        ensures shown { IfOk result (ShowsConfirm C.known self.now on connection.now from) }
         ensures err { IsOkUnless result Fault.NoMemory }
     {
         match self
@@ -189,7 +212,7 @@ impl<C: Chains + Drop> Completer<'_, C> {
 
     // What a step needs.
     fn connection_shown(&self, on: u8, draft: &ConnectionDraft) -> Result<Shown, Fault>
-        ensures shown { IfOk result (λ shown. AreConnectionProofs (C.known.answers self.now.chains.now) on draft.now shown.end shown.claim) }
+        ensures shown { IfOk result (ShowsConnection C.known self.now on draft.now) }
         ensures err { IsOkUnless result Fault.NoMemory }
     {
         match draft {
@@ -218,7 +241,7 @@ impl<C: Chains + Drop> Completer<'_, C> {
         on: u8,
         draft: ConnectionDraft,
     ) -> Result<Option<Message>, Fault>
-        ensures made { IfOk result (MakesConnectionMessage (C.known.answers self.now.chains.now) on draft) }
+        ensures made { IfOk result (MakesConnectionMessage (findings C.known self.now) on draft) }
         ensures err { IsOkUnless result Fault.NoMemory }
     {
         match self.connection_shown(on, &draft) {

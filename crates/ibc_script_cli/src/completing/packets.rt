@@ -1,9 +1,9 @@
 //! Messages for packets.
 
 ghost use Rattle.std.specs.Prelude.{◌≡◌, Some, IfOk, IsOkUnless};
-ghost use Rattle.ibc_machine.specs.ics04.Proving.{commitment_key, ack_key, destination_key};
 ghost use Rattle.ibc_wire.specs.declared.records.Order.TheVariants.{Unordered, Ordered};
-ghost use Rattle.ibc_script_cli.specs.Completing.{number_in, acknowledged_message, closed_message, IsProofBytesAt, IsNextRecv, IsUnreceived, IsUnreceivedAt, MakesRecv, MakesAck, MakesTimeout, MakesTimeoutOnClose, MakesPacketAction, MakesFromSentPacket, MakesPacketMessage};
+ghost use Rattle.ibc_script_cli.specs.Completing.{number_in, acknowledged_message, closed_message, IsNextRecv, IsUnreceived, MakesRecv, MakesAck, MakesTimeout, MakesTimeoutOnClose, MakesPacketAction, MakesPacketMessage};
+ghost use Rattle.ibc_script_cli.specs.Completers.{IsAckOf, IsAckProof, IsCommitmentProof, IsEndProof, IsMissed, IsSentPacket, MakesIfSent, findings};
 
 use super::packet_keys::{ack_key, commitment_key, destination_key, next_recv_key, receipt_key};
 use super::{Completer, encoding_of};
@@ -116,7 +116,7 @@ fn timeout_on_close_message(packet: Packet, height: u64, shown: Closed) -> Optio
 impl<C: Chains + Drop> Completer<'_, C> {
     /// The packet that a step names, `None` where it wasn't sent.
     fn sent_packet(&self, sent: SentPacket) -> Result<Option<Packet>, Fault>
-        ensures found { IfOk result ((C.known.answers self.now.chains.now).packet sent.chain sent.port sent.channel sent.sequence) }
+        ensures found { IfOk result (IsSentPacket C.known self.now sent) }
         ensures err { IsOkUnless result Fault.NoMemory }
     {
         let found = self
@@ -128,7 +128,7 @@ impl<C: Chains + Drop> Completer<'_, C> {
 
     /// The acknowledgement of a packet that a chain wrote, `None` where it wrote none.
     fn written_ack(&self, chain: u8, packet: &Packet) -> Result<Option<Bytes>, Fault>
-        ensures found { IfOk result ((C.known.answers self.now.chains.now).ack chain packet.now.destination_port packet.now.destination_channel packet.now.sequence) }
+        ensures found { IfOk result (IsAckOf C.known self.now chain packet.now) }
         ensures err { IsOkUnless result Fault.NoMemory }
     {
         self.chains
@@ -147,7 +147,7 @@ impl<C: Chains + Drop> Completer<'_, C> {
         packet: &Packet,
         from: ProofSource,
     ) -> Result<Option<Unreceived>, Fault>
-        ensures is { IfOk result (IsUnreceived (C.known.answers self.now.chains.now) from packet.now Ordered) }
+        ensures is { IfOk result (IsUnreceived (findings C.known self.now) from packet.now Ordered) }
         ensures err { IsOkUnless result Fault.NoMemory }
     {
         match self.found(from, next_recv_key(packet)?)? {
@@ -166,7 +166,7 @@ impl<C: Chains + Drop> Completer<'_, C> {
         packet: &Packet,
         from: ProofSource,
     ) -> Result<Option<Unreceived>, Fault>
-        ensures is { IfOk result (IsUnreceived (C.known.answers self.now.chains.now) from packet.now Unordered) }
+        ensures is { IfOk result (IsUnreceived (findings C.known self.now) from packet.now Unordered) }
         ensures err { IsOkUnless result Fault.NoMemory }
     {
         match self.proof(from, receipt_key(packet)?)? {
@@ -185,7 +185,7 @@ impl<C: Chains + Drop> Completer<'_, C> {
         packet: &Packet,
         from: ProofSource,
     ) -> Result<Option<Unreceived>, Fault>
-        ensures is { IfOk result (IsUnreceivedAt (C.known.answers self.now.chains.now) on from packet.now) }
+        ensures is { IfOk result (IsMissed C.known self.now on from packet.now) }
         ensures err { IsOkUnless result Fault.NoMemory }
     {
         let own = self.own_end(on, &packet.source_port, &packet.source_channel)?;
@@ -198,7 +198,7 @@ impl<C: Chains + Drop> Completer<'_, C> {
 
     // The proof that a packet was committed.
     fn commitment_proof(&self, packet: &Packet, from: ProofSource) -> Result<Option<Bytes>, Fault>
-        ensures is { IfOk result (IsProofBytesAt (C.known.answers self.now.chains.now) from (commitment_key packet.now)) }
+        ensures is { IfOk result (IsCommitmentProof C.known self.now from packet.now) }
         ensures err { IsOkUnless result Fault.NoMemory }
     {
         self.proof(from, commitment_key(packet)?)
@@ -206,7 +206,7 @@ impl<C: Chains + Drop> Completer<'_, C> {
 
     // The proof of what a packet's destination has of its acknowledgement.
     fn ack_proof(&self, packet: &Packet, from: ProofSource) -> Result<Option<Bytes>, Fault>
-        ensures is { IfOk result (IsProofBytesAt (C.known.answers self.now.chains.now) from (ack_key packet.now)) }
+        ensures is { IfOk result (IsAckProof C.known self.now from packet.now) }
         ensures err { IsOkUnless result Fault.NoMemory }
     {
         self.proof(from, ack_key(packet)?)
@@ -214,7 +214,7 @@ impl<C: Chains + Drop> Completer<'_, C> {
 
     // The proof of the end of a packet's destination.
     fn close_proof(&self, packet: &Packet, from: ProofSource) -> Result<Option<Bytes>, Fault>
-        ensures is { IfOk result (IsProofBytesAt (C.known.answers self.now.chains.now) from (destination_key packet.now)) }
+        ensures is { IfOk result (IsEndProof C.known self.now from packet.now) }
         ensures err { IsOkUnless result Fault.NoMemory }
     {
         self.proof(from, destination_key(packet)?)
@@ -222,8 +222,8 @@ impl<C: Chains + Drop> Completer<'_, C> {
 
     // What shows how a packet was acknowledged.
     fn acknowledged(&self, packet: &Packet, from: ProofSource) -> Result<Acknowledged, Fault>
-        ensures ack { IfOk result (λ shown. (C.known.answers self.now.chains.now).ack from.chain packet.now.destination_port packet.now.destination_channel packet.now.sequence shown.ack) }
-        ensures proof { IfOk result (λ shown. IsProofBytesAt (C.known.answers self.now.chains.now) from (ack_key packet.now) shown.proof) }
+        ensures ack { IfOk result (λ shown. IsAckOf C.known self.now from.chain packet.now shown.ack) }
+        ensures proof { IfOk result (λ shown. IsAckProof C.known self.now from packet.now shown.proof) }
         ensures err { IsOkUnless result Fault.NoMemory }
     {
         let ack = self.written_ack(from.chain, packet)?;
@@ -238,8 +238,8 @@ impl<C: Chains + Drop> Completer<'_, C> {
 
     // What shows that a packet won't be received any more.
     fn closed(&self, on: u8, packet: &Packet, from: ProofSource) -> Result<Closed, Fault>
-        ensures unreceived { IfOk result (λ shown. IsUnreceivedAt (C.known.answers self.now.chains.now) on from packet.now shown.unreceived) }
-        ensures proof { IfOk result (λ shown. IsProofBytesAt (C.known.answers self.now.chains.now) from (destination_key packet.now) shown.proof) }
+        ensures unreceived { IfOk result (λ s. IsMissed C.known self.now on from packet.now s.unreceived) }
+        ensures proof { IfOk result (λ shown. IsEndProof C.known self.now from packet.now shown.proof) }
         ensures err { IsOkUnless result Fault.NoMemory }
     {
         let unreceived = self.unreceived(on, packet, from)?;
@@ -253,7 +253,7 @@ impl<C: Chains + Drop> Completer<'_, C> {
     }
 
     fn recv_packet(&self, packet: Packet, from: ProofSource) -> Result<Option<Message>, Fault>
-        ensures made { IfOk result (MakesRecv (C.known.answers self.now.chains.now) from packet) }
+        ensures made { IfOk result (MakesRecv (findings C.known self.now) from packet) }
         ensures err { IsOkUnless result Fault.NoMemory }
     {
         match self.commitment_proof(&packet, from) {
@@ -274,7 +274,7 @@ impl<C: Chains + Drop> Completer<'_, C> {
     }
 
     fn ack_packet(&self, packet: Packet, from: ProofSource) -> Result<Option<Message>, Fault>
-        ensures made { IfOk result (MakesAck (C.known.answers self.now.chains.now) from packet) }
+        ensures made { IfOk result (MakesAck (findings C.known self.now) from packet) }
         ensures err { IsOkUnless result Fault.NoMemory }
     {
         match self.acknowledged(&packet, from) {
@@ -287,7 +287,7 @@ impl<C: Chains + Drop> Completer<'_, C> {
     }
 
     fn timeout(&self, on: u8, packet: Packet, from: ProofSource) -> Result<Option<Message>, Fault>
-        ensures made { IfOk result (MakesTimeout (C.known.answers self.now.chains.now) on from packet) }
+        ensures made { IfOk result (MakesTimeout (findings C.known self.now) on from packet) }
         ensures err { IsOkUnless result Fault.NoMemory }
     {
         match self.unreceived(on, &packet, from) {
@@ -314,7 +314,7 @@ impl<C: Chains + Drop> Completer<'_, C> {
         packet: Packet,
         from: ProofSource,
     ) -> Result<Option<Message>, Fault>
-        ensures made { IfOk result (MakesTimeoutOnClose (C.known.answers self.now.chains.now) on from packet) }
+        ensures made { IfOk result (MakesTimeoutOnClose (findings C.known self.now) on from packet) }
         ensures err { IsOkUnless result Fault.NoMemory }
     {
         match self.closed(on, &packet, from) {
@@ -334,7 +334,7 @@ impl<C: Chains + Drop> Completer<'_, C> {
         packet: Packet,
         from: ProofSource,
     ) -> Result<Option<Message>, Fault>
-        ensures made { IfOk result (MakesPacketAction (C.known.answers self.now.chains.now) on handling from packet) }
+        ensures made { IfOk result (MakesPacketAction (findings C.known self.now) on handling from packet) }
         ensures err { IsOkUnless result Fault.NoMemory }
     {
         match handling {
@@ -353,7 +353,7 @@ impl<C: Chains + Drop> Completer<'_, C> {
         sent: SentPacket,
         from: ProofSource,
     ) -> Result<Option<Message>, Fault>
-        ensures made { IfOk result (MakesFromSentPacket (C.known.answers self.now.chains.now) sent (MakesPacketAction (C.known.answers self.now.chains.now) on handling from)) }
+        ensures made { IfOk result (MakesIfSent C.known self.now sent on handling from) }
         ensures err { IsOkUnless result Fault.NoMemory }
     {
         match self.sent_packet(sent)? {
@@ -365,7 +365,7 @@ impl<C: Chains + Drop> Completer<'_, C> {
     /// The message for packets that a step of a chain sends, `None` where something that it needs isn't there.
     /// Fault: `NoMemory`.
     pub fn packet_message(&self, on: u8, draft: PacketDraft) -> Result<Option<Message>, Fault>
-        ensures made { IfOk result (MakesPacketMessage (C.known.answers self.now.chains.now) on draft) }
+        ensures made { IfOk result (MakesPacketMessage (findings C.known self.now) on draft) }
         ensures err { IsOkUnless result Fault.NoMemory }
     {
         match draft {

@@ -3,7 +3,7 @@
 ghost use Rattle.std.specs.Prelude.{◌≡◌, IfOk, IsOkUnless};
 ghost use Rattle.std.specs.Option.{option_zip};
 ghost use Rattle.ibc_script.specs.Applications.{port_of, version_of};
-ghost use Rattle.ibc_script_cli.specs.Opening.{update_draft, init_draft, try_draft, ack_draft, confirm_draft, channel_init_draft, channel_try_draft, channel_ack_draft, channel_confirm_draft, draft_of};
+ghost use Rattle.ibc_script_cli.specs.Opening.{update_draft, init_draft, try_draft, ack_draft, confirm_draft, channel_init_draft, channel_try_draft, channel_ack_draft, channel_confirm_draft, draft_from_both, draft_from_own, draft_of_kind};
 
 use super::HandshakeParty;
 use ibc_ids::{Name, NameKind, PortId, Version};
@@ -134,7 +134,7 @@ impl DraftWriter<'_> {
     }
 
     fn chan_open_init(&self) -> Result<Option<Draft>, Fault>
-        ensures made { IfOk result (λ made. made ≡ channel_init_draft self.now.application self.now.own.now) }
+        ensures made { IfOk result (λ made. made ≡ draft_from_own channel_init_draft self.now) }
         ensures memory { IsOkUnless result Fault.NoMemory }
     {
         let Some(connection) = &self.own.connection else {
@@ -152,7 +152,7 @@ impl DraftWriter<'_> {
     }
 
     fn chan_open_try(&self) -> Result<Option<Draft>, Fault>
-        ensures made { IfOk result (λ made. made ≡ channel_try_draft self.now.application self.now.own.now self.now.peer.now) }
+        ensures made { IfOk result (λ made. made ≡ draft_from_both channel_try_draft self.now) }
         ensures memory { IsOkUnless result Fault.NoMemory }
     {
         let Some((connection, peer_channel)) = both(&self.own.connection, &self.peer.channel)?
@@ -172,7 +172,7 @@ impl DraftWriter<'_> {
     }
 
     fn chan_open_ack(&self) -> Result<Option<Draft>, Fault>
-        ensures made { IfOk result (λ made. made ≡ channel_ack_draft self.now.application self.now.own.now self.now.peer.now) }
+        ensures made { IfOk result (λ made. made ≡ draft_from_both channel_ack_draft self.now) }
         ensures memory { IsOkUnless result Fault.NoMemory }
     {
         let Some((channel, peer_channel)) = both(&self.own.channel, &self.peer.channel)? else {
@@ -187,7 +187,7 @@ impl DraftWriter<'_> {
     }
 
     fn chan_open_confirm(&self) -> Result<Option<Draft>, Fault>
-        ensures made { IfOk result (λ made. made ≡ channel_confirm_draft self.now.application self.now.own.now self.now.peer.now) }
+        ensures made { IfOk result (λ made. made ≡ draft_from_both channel_confirm_draft self.now) }
         ensures memory { IsOkUnless result Fault.NoMemory }
     {
         let Some(channel) = &self.own.channel else {
@@ -203,7 +203,7 @@ impl DraftWriter<'_> {
     /// The message of a kind, `None` where `open` sends none of it, or it names something that no chain has given.
     /// Fault: `NoMemory`.
     pub fn draft(&self, kind: MessageKind) -> Result<Option<Draft>, Fault>
-        ensures made { IfOk result (λ made. made ≡ draft_of self.now.application kind self.now.own.now self.now.peer.now) }
+        ensures made { IfOk result (λ made. made ≡ draft_of_kind kind self.now) }
         ensures memory { IsOkUnless result Fault.NoMemory }
     {
         match kind {

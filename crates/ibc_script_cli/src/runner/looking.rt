@@ -1,11 +1,11 @@
 //! What the chains have is told.
 
-ghost use Rattle.std.specs.Prelude.{◌∷◌, [], codes, decimal, length, map, option_map, IfErr};
+ghost use Rattle.std.specs.Prelude.{◌∷◌, [], codes, decimal, length, map, IfErr};
 ghost use Rattle.std.specs.List.{range_with_len};
 ghost use Rattle.ibc_script.specs.Faults.{IsRunFault};
 ghost use Rattle.ibc_script.specs.declared.script.Step.TheVariants as step;
-ghost use Rattle.ibc_script_cli.specs.Lines.{digits_of};
-ghost use Rattle.ibc_script_cli.specs.Runs.{Runs, WritesText, line_of};
+ghost use Rattle.ibc_script_cli.specs.Lines.{hex_of};
+ghost use Rattle.ibc_script_cli.specs.Runs.{Emits, Runs, line_of};
 ghost use Rattle.ibc_script_cli.specs.Runs.Act.{Take, TellBalances, TellNotes};
 
 use super::Runner;
@@ -25,7 +25,7 @@ fn print_root_of<W: Write>(
     root: Option<&Root>,
     output: &mut W,
 ) -> Result<(), Fault>
-    ensures written { WritesText result (W.contents output.old) (W.contents output.new) (line_of (chain.now ∷ codes "root" ∷ decimal height ∷ digits_of (option_map (λ r. r.now) root.entry) ∷ [])) }
+    ensures written { Emits W.contents result output.old output.new (line_of (chain.now ∷ codes "root" ∷ decimal height ∷ hex_of root.entry ∷ [])) }
     ensures faults { IfErr result IsRunFault }
 {
     let line = Line::Root {
@@ -44,7 +44,7 @@ fn print_proof_of<W: Write>(
     proof: Option<&Bytes>,
     output: &mut W,
 ) -> Result<(), Fault>
-    ensures written { WritesText result (W.contents output.old) (W.contents output.new) (line_of (chain.now ∷ codes "prove" ∷ decimal height ∷ digits_of (option_map (λ p. p.now) proof.entry) ∷ [])) }
+    ensures written { Emits W.contents result output.old output.new (line_of (chain.now ∷ codes "prove" ∷ decimal height ∷ hex_of proof.entry ∷ [])) }
     ensures faults { IfErr result IsRunFault }
 {
     let line = Line::Prove {

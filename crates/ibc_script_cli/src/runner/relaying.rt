@@ -5,6 +5,7 @@ ghost use Rattle.ibc_script.specs.Faults.{IsRunFault};
 ghost use Rattle.ibc_script.specs.declared.script.Step.TheVariants as step;
 ghost use Rattle.ibc_script_cli.specs.Runs.{Runs, relay_acts};
 ghost use Rattle.ibc_script_cli.specs.Runs.Act.{Send, SendPlans, Take};
+ghost use Rattle.ibc_script_cli.specs.ScriptChains.{ArePlans};
 
 use super::{Runner, ask};
 use crate::Chains;
@@ -19,7 +20,7 @@ fn plans<C: Chains + Drop>(
     first: u8,
     second: u8,
 ) -> Result<(Vec<Message>, Vec<Message>), Fault>
-    ensures plans { IfOk result (λ plans. (C.known.answers chains.now).plans first second (plans.0.items, plans.1.items)) }
+    ensures plans { IfOk result (ArePlans C.known chains.now first second) }
     ensures fault { IsOkUnless result Fault.NoMemory }
 {
     chains.plans(first, second).map_err(Fault::no_memory)

@@ -1,5 +1,5 @@
 -- The totals are those of the channel and the denomination of these names.
-use Rattle.std.proofs.Common.{◌≡◌, inl, inr, refl, sym, subst, IfOk, IfErr}
+use Rattle.std.proofs.Common.{inl, inr, refl, sym, subst, IfOk, IfErr}
 use Rattle.std.proofs.lemmas.Result.{IfOk-at_ok, IfErr-at_err}
 use Rattle.ibc_ids.specs.Texts.{Text}
 use Rattle.ibc_machine.specs.declared.totals.Totals.{Totals}

@@ -1,5 +1,5 @@
 -- The account that is asked is the escrow account of the channel of this name.
-use Rattle.std.proofs.Common.{◌≡◌, inl, refl, ap, ◌∙◌}
+use Rattle.std.proofs.Common.{inl, refl, ap, ◌∙◌}
 use Rattle.ibc_ids.specs.Texts.{Text}
 use Rattle.ibc_machine.specs.ics20.Bank.{balance, escrow}
 use Rattle.ibc_machine.specs.ledger.Ledgers.{state_of}

@@ -1,10 +1,8 @@
 -- The ledger has its chain's own pass, and the others stay with the publishers.
-use Rattle.std.proofs.Common.{◌≡◌, ◌∙◌, true, length, sym, ap, subst, Some, Err, ⊎_elim, arith}
-use Rattle.std.specs.List.{All}
-use Rattle.std.proofs.lemmas.List.{length-map}
+use Rattle.std.proofs.Common.{◌≡◌, ◌∙◌, true, length, ap, Some, Err, ⊎_elim, arith}
 use Rattle.std.proofs.lemmas.Result.{err_from_is_err_and}
 use Rattle.ibc_ids.specs.Publications.{published_by}
-use Rattle.ibc_machine.specs.chain.Genesis.{genesis_state, chain_state, is_allowed}
+use Rattle.ibc_machine.specs.chain.Genesis.{genesis_state, is_allowed}
 use Rattle.ibc_root_table.specs.Passes.{Sight, unused_pass}
 use Rattle.ibc_ledger.specs.LedgerModel.{LedgerModel}
 use Rattle.ibc_chain_replay.proofs.DealtPasses.{as_many, own_pass, others_own}

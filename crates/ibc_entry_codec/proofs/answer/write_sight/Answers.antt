@@ -1,6 +1,5 @@
-use Rattle.std.proofs.Common.{[], ◌∷◌, subst}
+use Rattle.std.proofs.Common.{[], ◌∷◌}
 use Rattle.ibc_wire.specs.Fields.{one_byte, be64}
-use Rattle.ibc_wire.specs.Fronts.{Writes}
 use Rattle.ibc_wire.proofs.Writing.{behind}
 use Rattle.ibc_entry_codec.specs.Answers.{row_number}
 use Rattle.ibc_entry_codec.proofs.answer.write_sight.Goals as goal

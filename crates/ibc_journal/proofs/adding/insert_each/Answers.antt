@@ -1,5 +1,5 @@
 -- One entry behind another.
-use Rattle.std.proofs.Common.{◌≡◌, take, sym, subst, ◌∙◌, arith}
+use Rattle.std.proofs.Common.{take, sym, subst, ◌∙◌, arith}
 use Rattle.sqlite.specs.State.{HasCleanDisk}
 use Rattle.sqlite.specs.Held.{state}
 use Rattle.ibc_journal.specs.Entries.{items_of}

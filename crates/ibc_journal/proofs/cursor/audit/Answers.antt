@@ -1,5 +1,5 @@
 -- One entry after another is read, up to the last.
-use Rattle.std.proofs.Common.{◌≡◌, ◌+◌, [], Option, Ok, Err, sym, ap, subst, ◌∙◌, arith}
+use Rattle.std.proofs.Common.{◌≡◌, ◌+◌, [], Option, Ok, Err, ap, subst, arith}
 use Rattle.std.proofs.lemmas.Result.{err_from_is_err_and}
 use Rattle.sqlite.specs.State.{HasCleanDisk}
 use Rattle.sqlite.specs.Held.{state}

@@ -1,5 +1,5 @@
 -- The query shows the entry at the place, or nothing.
-use Rattle.std.proofs.Common.{◌≡◌, ◌∙◌, Ok, Err, Result, OnOk}
+use Rattle.std.proofs.Common.{◌∙◌, Ok, Err, Result, OnOk}
 use Rattle.sqlite.specs.Held.{state}
 use Rattle.sqlite.proofs.StateLemmas.{survives_weaker}
 use Rattle.std.specs.Prelude.{slice_get}

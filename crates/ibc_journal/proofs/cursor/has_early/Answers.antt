@@ -1,5 +1,5 @@
 -- The query shows no place.
-use Rattle.std.proofs.Common.{◌≡◌, ◌==◌, List, length, ◌∙◌, ap, not}
+use Rattle.std.proofs.Common.{◌==◌, List, length, ◌∙◌, ap, not}
 use Rattle.sqlite.specs.Order.{Row}
 use Rattle.sqlite.specs.Held.{state}
 use Rattle.sqlite.proofs.StateLemmas.{survives_weaker}

@@ -1,5 +1,5 @@
 -- The reader passes over an entry, or finds it damaged.
-use Rattle.std.proofs.Common.{◌≡◌, sym}
+use Rattle.std.proofs.Common.{sym}
 use Rattle.ibc_journal.specs.Entries.{item}
 use Rattle.ibc_journal.proofs.Chained.{reads_more, damaged_at, full_at}
 use Rattle.ibc_journal.proofs.cursor.next.Goals as goal

@@ -1,5 +1,5 @@
 -- The query shows how the journal began.
-use Rattle.std.proofs.Common.{◌≡◌, ◌∙◌, Ok, Err, Result, OnOk}
+use Rattle.std.proofs.Common.{◌∙◌, Ok, Err, Result, OnOk}
 use Rattle.sqlite.specs.Held.{state}
 use Rattle.sqlite.proofs.StateLemmas.{survives_weaker}
 use Rattle.ibc_journal.proofs.Found.{began, began_unchanged, began_nothing}

@@ -1,5 +1,5 @@
 -- Step by step.
-use Rattle.std.proofs.Common.{◌≡◌, ◌∙◌, List, None, ap, arith, length, subst, sym}
+use Rattle.std.proofs.Common.{◌∙◌, List, None, ap, arith, length, subst, sym}
 use Rattle.std.proofs.lemmas.List.{nil_from_length}
 use Rattle.std.specs.List.{flat_map}
 use Rattle.std.specs.Vec.Iter.{into_iter_items}

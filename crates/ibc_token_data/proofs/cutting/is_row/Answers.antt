@@ -1,4 +1,4 @@
-use Rattle.std.proofs.Common.{◌-◌, ◌<◌, ◌∙◌, sym, ap, arith, ◌≡◌, ℕ}
+use Rattle.std.proofs.Common.{◌-◌, ◌∙◌, sym, ap, arith, ◌≡◌, ℕ}
 use Rattle.ibc_token_data.specs.Cutting.{is_row}
 use Rattle.ibc_token_data.proofs.Rows.{seen_so_far, no_row, falls, row_ends, row_breaks, row_goes_on, no_more}
 use Rattle.ibc_token_data.proofs.cutting.is_row.Goals as goal

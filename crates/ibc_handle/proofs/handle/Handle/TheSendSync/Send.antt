@@ -15,7 +15,6 @@ use Rattle.ibc_handle.specs.contracts.handle_value.HandleValue.{the_row as R}
 use Rattle.ibc_handle.proofs.Crossing.{held_send}
 use Rattle.ibc_handle.specs.OwnedBoxes.{owned_box}
 use Rattle.ibc_handle.specs.contracts.handle.Handle.{the_row, the_type}
-use Prim.Native.Nat.{ℕ}
 
 owned_keyless : (p : Ptr) (x : Option HandleValue) → Keyless (owned_box R p x)
 owned_keyless null_ptr None = tt

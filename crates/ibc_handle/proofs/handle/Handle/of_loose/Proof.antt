@@ -28,9 +28,6 @@ use Rattle.ibc_handle.specs.contracts.handle.Handle.of_loose.{ended, clauses}
 use Rattle.ibc_handle.specs.contracts.handle.Handle.of_loose.Key.{name as #self}
 use Rattle.ibc_handle.proofs.handle.Handle.of_loose.Statement.{statement}
 use Rattle.ibc_handle.proofs.handle.Handle.of_loose.Code as code
-use Rattle.core.proofs.alloc.Calls.{Goes-blank}
-use Rattle.ibc_handle.specs.declared.handle_value.HandleValue.{HandleValue}
-use Rattle.std.specs.declared.option.Option.{Option}
 
 pub of_loose_spec : {M : Type 1} → statement M
 of_loose_spec 𝓤 𝓛 𝓜 𝓡 wired =

@@ -1,5 +1,5 @@
 -- What the ledger of the end says, where both are there.
-use Rattle.std.proofs.Common.{◌≡◌, ◌∙◌, sym, ap, List, Option, Bor, option_map}
+use Rattle.std.proofs.Common.{◌≡◌, ◌∙◌, sym, ap, Bor, option_map}
 use Rattle.std.proofs.lemmas.Result.{IfOk-weaker}
 use Rattle.ibc_ids.specs.Texts.{Text}
 use Rattle.ibc_ledger.specs.SentPackets.{packet_on}

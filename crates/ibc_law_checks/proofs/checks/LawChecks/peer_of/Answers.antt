@@ -1,9 +1,7 @@
 -- What the ledger of the end says, where both are there.
-use Rattle.std.proofs.Common.{◌≡◌, ◌∙◌, sym, ap, List, Option, Bor, option_map}
+use Rattle.std.proofs.Common.{◌≡◌, ◌∙◌, sym, ap, List, Bor, option_map}
 use Rattle.std.proofs.lemmas.Result.{IfOk-weaker}
-use Rattle.ibc_ids.specs.Texts.{Text}
 use Rattle.ibc_law_checks.specs.declared.ends.EndNotes.{EndNotes}
-use Rattle.ibc_machine.specs.ledger.Ledgers.{Ledger}
 use Rattle.ibc_ledger.specs.LedgerModel.{LedgerModel}
 use Rattle.ibc_law_checks.specs.Peers.{peer_of, peer_on}
 use Rattle.ibc_law_checks.proofs.ReadEnds.{end_read, at_end_is, at_end_none}

@@ -1,8 +1,10 @@
-use Rattle.std.proofs.Common.{◌+◌, List, map, subst, sym, take, take_all}
+use Rattle.std.proofs.Common.{◌≡◌, ◌+◌, Err, List, ap, map, subst, sym, take, take_all}
+use Rattle.std.proofs.lemmas.Result.{err_from_is_err_and}
 use Rattle.serde_json.specs.View.{view}
 use Rattle.ibc_machine.specs.chain.Genesis.{Holding}
 use Rattle.ibc_script.specs.ScriptValues.{AreEach, IsHolding}
-use Rattle.ibc_script.proofs.Values.{pushed}
+use Rattle.ibc_script.specs.declared.fault.Fault.TheVariants.{BadScript}
+use Rattle.ibc_script.proofs.Values.{none_at, pushed}
 use Rattle.ibc_script.proofs.reading.chains.read_balances.Goals as goal
 
 pub loop-value-preserved : goal.loop-value-preserved
@@ -14,3 +16,10 @@ loop-value-preserved c =
 pub returns-clause-holdings : goal.returns-clause-holdings
 returns-clause-holdings c =
     subst (λ v. AreEach IsHolding c.loop-value.balances.items (map view v)) (take_all c.loop-value.value-index c.args.values.now c.loop-value-test.false) c.loop-value.invariant
+
+pub returns-in_err-read_balance-clause-bad : goal.returns-in_err-read_balance-clause-bad
+returns-in_err-read_balance-clause-bad c bad balances each =
+    let p = err_from_is_err_and c.from_residual-in_err-read_balance.result c.from_residual-in_err-read_balance.ensures.1 in
+    let fault : c.in_err-read_balance.field-0.0 ≡ BadScript = (let a = p.1 in let b = p.2 in cc) in
+    none_at IsHolding balances c.args.values.now c.loop-value.value-index c.value-item.result c.loop-value-test.true c.value-item.is
+    (c.in_err-read_balance.ensures.bad (ap Err fault)) each

@@ -1,10 +1,12 @@
-use Rattle.std.proofs.Common.{◌≡◌, ◌∙◌, ◌+◌, ◌++◌, [], ◌∷◌, ℕ, List, Some, ap, arith, length, length-append, map, slice_get, subst, sym, take, take_all, zip}
+use Rattle.std.proofs.Common.{◌≡◌, ◌∙◌, ◌+◌, ◌++◌, [], ◌∷◌, ℕ, Err, List, Some, ap, arith, length, length-append, map, slice_get, subst, sym, take, take_all, zip}
 use Rattle.std.proofs.lemmas.List.{length-map, map-append}
+use Rattle.std.proofs.lemmas.Result.{err_from_is_err_and}
 use Rattle.serde_json.specs.View.{view}
 use Rattle.ibc_ids.specs.Texts.{Text}
 use Rattle.ibc_machine.specs.chain.Genesis.{ChainState, chain_state}
 use Rattle.ibc_script.specs.ScriptValues.{AreDifferent, AreEach, IsChainStart}
-use Rattle.ibc_script.proofs.Values.{more_different, pushed, zip_push}
+use Rattle.ibc_script.specs.declared.fault.Fault.TheVariants.{BadScript}
+use Rattle.ibc_script.proofs.Values.{chains_counted, more_different, named_twice, none_at, pushed, zip_push}
 use Rattle.ibc_script.proofs.reading.chains.read_chains.Goals as goal
 
 pub loop-value-preserved : goal.loop-value-preserved
@@ -31,10 +33,40 @@ loop-value-preserved c =
           c.value-item.is at.invariant.each c.in_ok-name.ensures.start);
       different = subst AreDifferent (sym more_names)
           (more_different at.names.items name at.invariant.different
-          (subst (λ (l : List Text). (i : ℕ) → slice_get l i ≡ Some name → ⊥) c.as_slice.ensures.value (c.is_known.ensures c.if-is_known.false)));
+          (subst (λ (l : List Text). (i : ℕ) → slice_get l i ≡ Some name → ⊥) c.as_slice.ensures.value (c.is_known.ensures.new c.if-is_known.false)));
     }
 
 pub returns-clause-starts : goal.returns-clause-starts
 returns-clause-starts c =
     let at = c.loop-value in
     subst (λ v. AreEach IsChainStart (zip at.names.items (map chain_state at.starts.items)) (map view v)) (take_all at.value-index c.args.values.now c.loop-value-test.false) at.invariant.each
+
+pub returns-then-values-gt-MOST_CHAINS-clause-bad : goal.returns-then-values-gt-MOST_CHAINS-clause-bad
+returns-then-values-gt-MOST_CHAINS-clause-bad c bad names starts are =
+    let counted = chains_counted names starts (map view c.args.values.now) are.2 are.0 in
+    let mapped = length-map c.args.values.now view in
+    let few = are.3 in
+    let many = c.if-values-gt-MOST_CHAINS.true in
+    absurd (omega (arith, counted, mapped, few, many))
+
+pub returns-in_err-name-clause-bad : goal.returns-in_err-name-clause-bad
+returns-in_err-name-clause-bad c bad names starts are =
+    let p = err_from_is_err_and c.from_residual-in_err-name.result c.from_residual-in_err-name.ensures.1 in
+    let fault : c.in_err-name.field-0.0 ≡ BadScript = (let a = p.1 in let b = p.2 in cc) in
+    none_at IsChainStart (zip names starts) c.args.values.now c.loop-value.value-index c.value-item.result c.loop-value-test.true c.value-item.is
+    (c.in_err-name.ensures.bad (ap Err fault)) are.0
+
+-- a name that stands among those before
+pub returns-then-is_known-clause-bad : goal.returns-then-is_known-clause-bad
+returns-then-is_known-clause-bad c bad names starts are =
+    let at = c.loop-value in
+    let name = c.in_ok-name.name in
+    let named = at.invariant.names in
+    let started = at.invariant.starts in
+    let mapped = length-map at.starts.items chain_state in
+    let found = c.is_known.ensures.known c.if-is_known.true in
+    let stands : slice_get at.names.items found.0 ≡ Some name =
+    subst (λ (l : List Text). slice_get l found.0 ≡ Some name) c.as_slice.ensures.value found.1 in
+    named_twice at.names.items (map chain_state at.starts.items) c.args.values.now at.value-index found.0 name c.value-item.result
+    c.loop-value-test.true c.value-item.is (omega (arith, named, started, mapped)) named at.invariant.each stands c.in_ok-name.ensures.start.1.0.0
+    names starts are
