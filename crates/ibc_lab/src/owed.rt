@@ -250,6 +250,44 @@ const WINDOW: Owed = Owed {
     optional: true,
 };
 
+const CHAN_OPEN_TRY: &[Owed] = &[
+    DO,
+    ON,
+    PORT,
+    ORDER,
+    CONNECTION,
+    PEER_PORT,
+    PEER_CHANNEL,
+    VERSION,
+    FROM,
+    HEIGHT,
+];
+
+const TRANSFER: &[Owed] = &[
+    DO,
+    ON,
+    CHANNEL,
+    USER,
+    DENOM,
+    AMOUNT,
+    RECEIVER,
+    MEMO,
+    TIMEOUT_HEIGHT,
+    TIMEOUT_TIME,
+];
+
+const TRANSFER_MANY: &[Owed] = &[
+    DO,
+    ON,
+    CHANNEL,
+    USER,
+    TOKENS,
+    RECEIVER,
+    MEMO,
+    TIMEOUT_HEIGHT,
+    TIMEOUT_TIME,
+];
+
 /// The member `do` of a step.
 pub fn kind_owed() -> Owed
     ensures { result ≡ kind_owed }
@@ -283,18 +321,7 @@ pub fn step_owes(kind: StepKind) -> &'static [Owed]
         StepKind::ChanOpenAck => &[DO, ON, PORT, CHANNEL, PEER_CHANNEL, FROM, HEIGHT],
         StepKind::ChanOpenConfirm => &[DO, ON, PORT, CHANNEL, FROM, HEIGHT],
         StepKind::ChanOpenInit => &[DO, ON, PORT, ORDER, CONNECTION, PEER_PORT, VERSION],
-        StepKind::ChanOpenTry => &[
-            DO,
-            ON,
-            PORT,
-            ORDER,
-            CONNECTION,
-            PEER_PORT,
-            PEER_CHANNEL,
-            VERSION,
-            FROM,
-            HEIGHT,
-        ],
+        StepKind::ChanOpenTry => CHAN_OPEN_TRY,
         StepKind::ConnOpenAck => &[DO, ON, CONNECTION, PEER_CONNECTION, FROM, HEIGHT],
         StepKind::ConnOpenConfirm => &[DO, ON, CONNECTION, FROM, HEIGHT],
         StepKind::ConnOpenInit => &[DO, ON, CLIENT, PEER_CLIENT],
@@ -309,29 +336,8 @@ pub fn step_owes(kind: StepKind) -> &'static [Owed]
         StepKind::Timeout => &[DO, ON, PACKET, FROM, HEIGHT],
         StepKind::TimeoutOnClose => &[DO, ON, PACKET, FROM, HEIGHT],
         StepKind::Totals => &[DO, ON, CHANNEL, DENOM],
-        StepKind::Transfer => &[
-            DO,
-            ON,
-            CHANNEL,
-            USER,
-            DENOM,
-            AMOUNT,
-            RECEIVER,
-            MEMO,
-            TIMEOUT_HEIGHT,
-            TIMEOUT_TIME,
-        ],
-        StepKind::TransferMany => &[
-            DO,
-            ON,
-            CHANNEL,
-            USER,
-            TOKENS,
-            RECEIVER,
-            MEMO,
-            TIMEOUT_HEIGHT,
-            TIMEOUT_TIME,
-        ],
+        StepKind::Transfer => TRANSFER,
+        StepKind::TransferMany => TRANSFER_MANY,
         StepKind::UpdateClient => &[DO, ON, CLIENT, HEIGHT],
     }
 }
