@@ -14,13 +14,27 @@ use Rattle.ibc_machine.specs.promises.Histories.{Happened}
 use Rattle.ibc_root_table.proofs.Beginnings.{get_snoc}
 use Rattle.ibc_ledger_lock.specs.ReceiptsAndReadings.{IsBehind, IsReceiptOf, ReceiptModel}
 use Rattle.ibc_race.proofs.Booked.{at_place, from_places}
-use Rattle.ibc_script_races.specs.KeptReceipts.{AreInOrder, AreKept, IsKept, IsLastOf, told_by}
+use Rattle.ibc_script_races.specs.KeptReceipts.{AreInOrder, AreKept, IsKept, IsLastOf, IsMissing, told_by}
 use Rattle.ibc_script_races.specs.Racing.{IsAsked}
 
 -- a chain that is read at its number's place
 pub found_at : (numbers : List ℕ) (i n : ℕ) (b : Bor ℕ) → IsItemAt numbers i (Some b) → i ≡ n → b.now ≡ n → slice_get numbers n ≡ Some n
 found_at numbers i n b is place number =
     ap (slice_get numbers) (sym place) ∙ slice_get_read numbers (length numbers) i b.now refl is.3.0 is.1 ∙ ap Some number
+
+-- where none is read, none stands there
+pub past_all : (numbers : List ℕ) (i n : ℕ) → IsItemAt numbers i None → i ≡ n → IsMissing numbers n
+past_all numbers i n is place at =
+    let within = slice_get_within numbers n n at in
+    let past = is.3 in
+    omega (arith, place, past, within)
+
+-- where one of another number is read
+pub other_there : (numbers : List ℕ) (i n : ℕ) (b : Bor ℕ) → IsItemAt numbers i (Some b) → i ≡ n → (b.now ≡ n → ⊥) → IsMissing numbers n
+other_there numbers i n b is place other at =
+    let there : slice_get numbers n ≡ Some b.now = ap (slice_get numbers) (sym place) ∙ slice_get_read numbers (length numbers) i b.now refl is.3.0 is.1 in
+    let both : Some b.now ≡ Some n = sym there ∙ at in
+    other cc
 
 before_or : (m n : ℕ) → (m < n) ⊎ (n ≤ m)
 before_or zero zero = inr (omega arith)
