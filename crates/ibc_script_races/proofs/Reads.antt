@@ -1,6 +1,6 @@
 -- What was read of a chain is what a lawful ledger has.
-use Rattle.std.proofs.Common.{◌≡◌, ◌∙◌, ◌⊎◌, ◌-◌, ℕ, Bool, true, false, List, [], Option, None, Some, Result, Ok, Err, IfOk, IfSome, IsNone, IsSomeAnd, MatchOption, ap, inl, inr, length, map, nat_lt, refl, slice_get, sym, subst}
-use Rattle.std.specs.List.{All, last_or}
+use Rattle.std.proofs.Common.{◌≡◌, ◌∙◌, ◌⊎◌, ◌-◌, ℕ, Bool, true, false, List, Option, None, Some, Result, Ok, Err, IfOk, IsNone, IsSomeAnd, MatchOption, ap, inl, inr, length, map, nat_lt, refl, slice_get, sym, subst}
+use Rattle.std.specs.List.{last_or}
 use Rattle.std.specs.Global.{Vec}
 use Rattle.std.proofs.lemmas.List.Elements.{All-map, All-weaker}
 use Rattle.ibc_ids.specs.Paths.{path}
@@ -22,7 +22,7 @@ use Rattle.ibc_ledger_lock.specs.ReceiptsAndReadings.{IsLedgerOf, ReceiptModel, 
 use Rattle.ibc_script_cli.specs.declared.chains.CommittedBlock.{CommittedBlock}
 use Rattle.ibc_script_worlds.specs.declared.blocks.ChainStarts.{ChainStarts}
 use Rattle.ibc_script_worlds.specs.EndedBlocks.{AreCountedFrom, IsBlockSince, IsCounted, blocks_told, ends_in, kept_told, told_at}
-use Rattle.ibc_script_worlds.specs.WorldChains.{kept_block, plans_of, proof_in}
+use Rattle.ibc_script_worlds.specs.WorldChains.{kept_block, proof_in}
 use Rattle.ibc_script_worlds.proofs.ToldBlocks.{counted}
 use Rattle.ibc_script_worlds.proofs.WorldLooks.{not_proved, proved}
 use Rattle.ibc_script_races.specs.KeptReceipts.{AreKept, IsKept, IsMissing, told_by}

@@ -1,7 +1,6 @@
 -- What the steps of a race read of its chains, which go on meanwhile: what a lawful ledger of the race's genesis has.
 use Rattle.std.specs.Prelude.{◌≡◌, ◌⊎◌, ℕ, List, [], Option, Some, None, IfSome, ⊤}
 use Rattle.std.specs.List.{All}
-use Rattle.ibc_ids.specs.declared.key.Key.{Key}
 use Rattle.ibc_machine.specs.chain.Genesis.{GenesisState}
 use Rattle.ibc_machine.specs.ledger.Ledgers.{IsLedger, Ledger, chain_of, state_of}
 use Rattle.ibc_machine.specs.promises.Histories.{Happened}
