@@ -1,5 +1,5 @@
 pub mod Crossing
 pub mod Raced
-pub mod Reads
+pub mod RacedLooks
 pub mod Receipts
 pub mod Standing

@@ -1,7 +1,7 @@
 use Rattle.std.proofs.Common.{List, subst}
 use Rattle.ibc_ledger.specs.declared.entry.StampedEntry.{StampedEntry as KeptEntry}
 use Rattle.ibc_script_worlds.specs.EndedBlocks.{IsBlockSince, IsCounted}
-use Rattle.ibc_script_races.proofs.Reads.{block_read}
+use Rattle.ibc_script_races.proofs.RacedLooks.{block_read}
 use Rattle.ibc_script_races.proofs.reading.block_of.Goals as goal
 
 pub returns : goal.returns

@@ -1,4 +1,4 @@
-use Rattle.ibc_script_races.proofs.Reads.{plans_had}
+use Rattle.ibc_script_races.proofs.RacedLooks.{plans_had}
 use Rattle.ibc_script_races.proofs.reading.planned.Goals as goal
 
 pub returns : goal.returns

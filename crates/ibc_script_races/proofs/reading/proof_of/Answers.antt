@@ -2,7 +2,7 @@ use Rattle.std.proofs.Common.{◌∙◌, Err, IfOk, Result, ap, subst}
 use Rattle.ibc_ids.specs.declared.refusal.Refusal.{Refusal}
 use Rattle.ibc_merkle.specs.declared.proof.Proof.{Proof}
 use Rattle.ibc_ledger.specs.LedgerReads.{IsProofOn}
-use Rattle.ibc_script_races.proofs.Reads.{no_proof_had, proof_had}
+use Rattle.ibc_script_races.proofs.RacedLooks.{no_proof_had, proof_had}
 use Rattle.ibc_script_races.proofs.reading.proof_of.Goals as goal
 
 pub returns-in-Ok : goal.returns-in-Ok

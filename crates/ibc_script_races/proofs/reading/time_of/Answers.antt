@@ -2,7 +2,7 @@ use Rattle.std.proofs.Common.{◌≡◌, IfOk, Result, subst}
 use Rattle.ibc_ids.specs.declared.refusal.Refusal.{Refusal}
 use Rattle.ibc_machine.specs.ics18.Relay.{View}
 use Rattle.ibc_ledger_lock.specs.ReceiptsAndReadings.{view_shown}
-use Rattle.ibc_script_races.proofs.Reads.{time_had}
+use Rattle.ibc_script_races.proofs.RacedLooks.{time_had}
 use Rattle.ibc_script_races.proofs.reading.time_of.Goals as goal
 
 pub returns : goal.returns

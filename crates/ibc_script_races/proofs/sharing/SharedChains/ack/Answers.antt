@@ -1,7 +1,7 @@
 use Rattle.std.proofs.Common.{None, inr, refl}
 use Rattle.ibc_machine.specs.ledger.Ledgers.{Ledger}
 use Rattle.ibc_ledger.specs.SentPackets.{ack_on}
-use Rattle.ibc_script_races.proofs.Reads.{had_of, read_of, unasked}
+use Rattle.ibc_script_races.proofs.RacedLooks.{had_of, read_of, unasked}
 use Rattle.ibc_script_races.proofs.sharing.SharedChains.ack.Goals as goal
 
 pub returns-in-Some : goal.returns-in-Some

@@ -1,5 +1,5 @@
 use Rattle.std.proofs.Common.{inr}
-use Rattle.ibc_script_races.proofs.Reads.{one_unasked, plans_of_both}
+use Rattle.ibc_script_races.proofs.RacedLooks.{one_unasked, plans_of_both}
 use Rattle.ibc_script_races.proofs.sharing.SharedChains.plans.Goals as goal
 
 pub returns-in-Some : goal.returns-in-Some

@@ -1,6 +1,6 @@
 use Rattle.std.proofs.Common.{None, inr, refl}
 use Rattle.ibc_script_worlds.specs.WorldChains.{proof_in}
-use Rattle.ibc_script_races.proofs.Reads.{read_of, unasked}
+use Rattle.ibc_script_races.proofs.RacedLooks.{read_of, unasked}
 use Rattle.ibc_script_races.proofs.sharing.SharedChains.proof.Goals as goal
 
 pub returns-in-Some : goal.returns-in-Some

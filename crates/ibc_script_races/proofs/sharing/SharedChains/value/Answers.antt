@@ -1,6 +1,6 @@
 use Rattle.std.proofs.Common.{None, inr, refl}
 use Rattle.ibc_script_worlds.specs.WorldChains.{value_in}
-use Rattle.ibc_script_races.proofs.Reads.{had_of, read_of, unasked}
+use Rattle.ibc_script_races.proofs.RacedLooks.{had_of, read_of, unasked}
 use Rattle.ibc_script_races.proofs.sharing.SharedChains.value.Goals as goal
 
 pub returns-in-Some : goal.returns-in-Some

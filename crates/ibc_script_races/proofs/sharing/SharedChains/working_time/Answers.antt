@@ -1,6 +1,6 @@
 use Rattle.std.proofs.Common.{inr, refl}
 use Rattle.ibc_machine.specs.ledger.Ledgers.{Ledger, state_of}
-use Rattle.ibc_script_races.proofs.Reads.{read_of, unasked}
+use Rattle.ibc_script_races.proofs.RacedLooks.{read_of, unasked}
 use Rattle.ibc_script_races.proofs.sharing.SharedChains.working_time.Goals as goal
 
 pub returns-in-Some : goal.returns-in-Some
