@@ -1,28 +1,28 @@
 -- What was read of a chain is what a lawful ledger has.
-use Rattle.std.proofs.Common.{◌≡◌, ◌∙◌, ◌⊎◌, ◌-◌, ℕ, Bool, true, false, List, Option, None, Some, Result, Ok, Err, IfOk, IsNone, IsSomeAnd, MatchOption, ap, inl, inr, length, map, nat_lt, refl, slice_get, sym, subst}
+use Rattle.std.proofs.Common.{◌≡◌, ◌∙◌, ◌⊎◌, ◌↔◌, ◌-◌, ℕ, Bool, true, false, List, Option, None, Some, Result, Ok, Err, IfOk, IsNone, IsOkAnd, MatchOption, ap, inl, inr, length, map, nat_lt, refl, slice_get, sym, subst}
 use Rattle.std.specs.List.{last_or}
 use Rattle.std.specs.Global.{Vec}
 use Rattle.std.proofs.lemmas.List.Elements.{All-map, All-weaker}
-use Rattle.ibc_ids.specs.Paths.{path}
 use Rattle.ibc_ids.specs.declared.key.Key.{Key}
-use Rattle.ibc_merkle.specs.Written.{written_proof}
+use Rattle.ibc_ids.specs.declared.refusal.Refusal.{Refusal}
+use Rattle.ibc_ids.specs.declared.refusal.Refusal.TheVariants.{NoConsensus}
 use Rattle.ibc_merkle.specs.declared.proof.Proof.{Proof}
 use Rattle.ibc_wire.specs.declared.messages.Message.{Message}
 use Rattle.ibc_machine.specs.chain.Genesis.{GenesisState}
 use Rattle.ibc_machine.specs.chain.Records.{Block, MachineChain}
 use Rattle.ibc_machine.specs.ics18.Relay.{View, plan, view_at}
-use Rattle.ibc_machine.specs.ics24.Image.{image}
 use Rattle.ibc_machine.specs.ledger.Ledgers.{Ledger, chain_of, state_of}
 use Rattle.ibc_machine.specs.ledger.Replay.{StampedEntry}
 use Rattle.ibc_machine.specs.promises.Histories.{Happened}
 use Rattle.ibc_root_table.specs.Passes.{TableName}
 use Rattle.ibc_ledger.specs.LedgerModel.{LedgerModel, abstract_entry}
+use Rattle.ibc_ledger.specs.LedgerReads.{IsProofOn, provable_on}
 use Rattle.ibc_ledger.specs.declared.entry.StampedEntry.{StampedEntry as KeptEntry}
 use Rattle.ibc_ledger_lock.specs.ReceiptsAndReadings.{IsLedgerOf, ReceiptModel, view_shown}
 use Rattle.ibc_script_cli.specs.declared.chains.CommittedBlock.{CommittedBlock}
 use Rattle.ibc_script_worlds.specs.declared.blocks.ChainStarts.{ChainStarts}
 use Rattle.ibc_script_worlds.specs.EndedBlocks.{AreCountedFrom, IsBlockSince, IsCounted, blocks_told, ends_in, kept_told, told_at}
-use Rattle.ibc_script_worlds.specs.WorldChains.{kept_block, proof_in}
+use Rattle.ibc_script_worlds.specs.WorldChains.{proof_in}
 use Rattle.ibc_script_worlds.proofs.ToldBlocks.{counted}
 use Rattle.ibc_script_worlds.proofs.WorldLooks.{not_proved, proved}
 use Rattle.ibc_script_races.specs.KeptReceipts.{AreKept, IsKept, IsMissing, told_by}
@@ -33,6 +33,11 @@ told_if_kept : (keeps : Bool) (o : Option CommittedBlock) (it : CommittedBlock) 
     → Some it ≡ o
 told_if_kept true o it same = same
 told_if_kept false o it same = absurd cc
+
+-- the view of a chain tells the time of its working block
+its_time : (k : ℕ) (chain : MachineChain) (last : Option Block) → (view_at k chain last).working_time ≡ chain.time
+its_time k chain None = refl
+its_time k chain (Some last) = refl
 
 -- ---- one ledger
 
@@ -45,22 +50,23 @@ module _ (table : TableName) (genesis : GenesisState) (on : ℕ) (held : LedgerM
   had_of tells (Err error) same = tt
 
   -- a proof, or none
-  pub proof_had : (height : ℕ) (k : Key) (proof : Proof) → IsSomeAnd (kept_block height held.ledger) (λ block. proof ≡ written_proof (image block.records.core) (path k))
-      → SomeLedgerHas genesis on (proof_in height k) (Some proof)
-  proof_had height k proof is_proof = (held.ledger, its_ledger, proved height k held.ledger proof is_proof)
-
-  pub no_proof_had : (height : ℕ) (k : Key) → IsNone (kept_block height held.ledger) → SomeLedgerHas genesis on (proof_in height k) None
-  no_proof_had height k none = (held.ledger, its_ledger, not_proved height k held.ledger none)
+  pub proof_had : (height : ℕ) (k : Key) (answer : Result Proof Refusal) (r : Result (Option Proof) Refusal) → IfOk answer (IsProofOn held.ledger height k)
+      → ((answer ≡ Err NoConsensus) ↔ IsNone (provable_on held.ledger height)) → IfOk r (λ found. MatchOption found (answer ≡ Err NoConsensus) (λ proof. answer ≡ Ok proof))
+      → IfOk r (SomeLedgerHas genesis on (proof_in height k))
+  proof_had height k answer (Ok (Some proof)) proved_by unknown same =
+      (held.ledger, its_ledger, proved height k held.ledger proof (subst (λ (a : Result Proof Refusal). IfOk a (IsProofOn held.ledger height k)) same proved_by))
+  proof_had height k answer (Ok None) proved_by unknown same = (held.ledger, its_ledger, not_proved height k held.ledger (unknown.0 same))
+  proof_had height k answer (Err refusal) proved_by unknown same = tt
 
   -- the time of a view's working block
-  pub time_had : (view : View) (time : ℕ) → view ≡ view_shown held → time ≡ view.working_time → SomeLedgerHas genesis on (λ (ledger : Ledger). (state_of ledger).chain.time) time
-  time_had view time shown same =
+  pub time_had : (looked : Result View Refusal) (r : Result ℕ Refusal) → IfOk looked (λ view. view ≡ view_shown held)
+      → IfOk r (λ time. IsOkAnd looked (λ view. time ≡ view.working_time)) → IfOk r (SomeLedgerHas genesis on (λ (ledger : Ledger). (state_of ledger).chain.time))
+  time_had (Ok view) (Ok time) shown same =
       let chain = (state_of held.ledger).chain in
       (held.ledger, its_ledger, same ∙ ap (λ (v : View). v.working_time) shown ∙ its_time held.ledger.chain chain (last_or None chain.committed))
-    where
-      its_time : (k : ℕ) (chain : MachineChain) (last : Option Block) → (view_at k chain last).working_time ≡ chain.time
-      its_time k chain None = refl
-      its_time k chain (Some last) = refl
+  time_had (Ok view) (Err refusal) shown same = tt
+  time_had (Err error) (Ok time) shown not = absurd not
+  time_had (Err error) (Err refusal) shown same = tt
 
   -- a block
   block_since : (start window height : ℕ) (found : Option CommittedBlock) → found ≡ kept_told window height (blocks_told start (ends_in held.ledger.history))

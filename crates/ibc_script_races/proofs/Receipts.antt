@@ -26,7 +26,7 @@ found_at numbers i n b is place number =
 pub past_all : (numbers : List ℕ) (i n : ℕ) → IsItemAt numbers i None → i ≡ n → IsMissing numbers n
 past_all numbers i n is place at =
     let within = slice_get_within numbers n n at in
-    let past = is.3 in
+    let past : length numbers ≤ i = is.3 in
     omega (arith, place, past, within)
 
 -- where one of another number is read

@@ -1,11 +1,13 @@
 //! What is read of chains that threads share.
 
-ghost use Rattle.std.specs.Prelude.{IfOk};
+ghost use Rattle.std.specs.Prelude.{◌≡◌, Err, IfOk, IsOkAnd, MatchOption, Ok};
+ghost use Rattle.ibc_ids.specs.declared.refusal.Refusal.TheVariants.{NoConsensus};
 ghost use Rattle.ibc_machine.specs.ledger.Ledgers.{state_of};
 ghost use Rattle.ibc_script_worlds.specs.WorldChains.{proof_in};
 ghost use Rattle.ibc_script_races.specs.RacedReads.{ArePlannedBetween, IsBlockRead, SomeLedgerHas};
 
 use ibc_ids::{Key, Refusal};
+use ibc_ledger::View;
 use ibc_ledger_lock::{Chain, WorldBrand};
 use ibc_merkle::Proof;
 use ibc_relayer::plans;
@@ -24,7 +26,13 @@ pub(crate) fn proof_of<R: Wait, W: WorldBrand>(
 ) -> Result<Option<Proof>, Refusal>
     ensures { IfOk result (SomeLedgerHas W.genesis chain.now (proof_in height key.now)) }
 {
-    let answer = chain.query_proof(rt, height, key).0;
+    proof_if_kept(chain.query_proof(rt, height, key).0)
+}
+
+// A proof, none where its height isn't kept.
+fn proof_if_kept(answer: Result<Proof, Refusal>) -> Result<Option<Proof>, Refusal>
+    ensures { IfOk result (λ found. MatchOption found (answer ≡ Err NoConsensus) (λ proof. answer ≡ Ok proof)) }
+{
     match answer {
         Ok(proof) => Ok(Some(proof)),
         Err(Refusal::NoConsensus) => Ok(None),
@@ -50,9 +58,17 @@ pub(crate) fn block_of<R: Wait, W: WorldBrand>(
 pub(crate) fn time_of<R: Wait, W: WorldBrand>(rt: &R, chain: &Chain<W>) -> Result<u64, Refusal>
     ensures { IfOk result (SomeLedgerHas W.genesis chain.now (λ ledger. (state_of ledger).chain.time)) }
 {
-    let looked = chain.look(rt).0;
-    let view = looked?;
-    Ok(view.working_time())
+    working_time_of(chain.look(rt).0)
+}
+
+// The time of the working block of a view.
+fn working_time_of(looked: Result<View, Refusal>) -> Result<u64, Refusal>
+    ensures { IfOk result (λ time. IsOkAnd looked (λ view. time ≡ view.working_time)) }
+{
+    match looked {
+        Ok(view) => Ok(view.working_time()),
+        Err(refusal) => Err(refusal),
+    }
 }
 
 /// What relayers plan between two chains, by a view of each.
