@@ -1,5 +1,5 @@
 -- The receipts that the main thread of a race keeps: each is of the chain that was asked, and stands behind the earlier ones.
-use Rattle.std.proofs.Common.{◌≡◌, ◌∙◌, ◌+◌, ◌<◌, ◌≤◌, ℕ, zero, suc, List, [], ◌∷◌, ◌++◌, Option, None, Some, Result, Ok, Err, IfOk, IfSome, OnErr, OnOk, Bor, ap, arith, inl, inr, length, map, option_map, refl, slice_get, sym, subst, ⊎_elim, ◌⊎◌}
+use Rattle.std.proofs.Common.{◌≡◌, ◌∙◌, ◌+◌, ◌<◌, ◌≤◌, ℕ, zero, suc, List, [], ◌∷◌, ◌++◌, Option, None, Some, Result, Ok, Err, IfNone, IfOk, IfSome, OnErr, OnOk, Bor, ap, arith, inl, inr, length, map, option_map, refl, slice_get, sym, subst, ⊎_elim, ◌⊎◌}
 use Rattle.std.specs.List.{All}
 use Rattle.std.specs.Slice.{IsItemAt}
 use Rattle.std.proofs.lemmas.List.{map-append}
@@ -21,6 +21,11 @@ use Rattle.ibc_script_races.specs.Racing.{IsAsked}
 pub found_at : (numbers : List ℕ) (i n : ℕ) (b : Bor ℕ) → IsItemAt numbers i (Some b) → i ≡ n → b.now ≡ n → slice_get numbers n ≡ Some n
 found_at numbers i n b is place number =
     ap (slice_get numbers) (sym place) ∙ slice_get_read numbers (length numbers) i b.now refl is.3.0 is.1 ∙ ap Some number
+
+-- what is so of an option that is none
+pub none_so : {A P : Type 0} (o : Option A) → P → IfNone o P
+none_so None is = is
+none_so (Some x) is = tt
 
 -- where none is read, none stands there
 pub past_all : (numbers : List ℕ) (i n : ℕ) → IsItemAt numbers i None → i ≡ n → IsMissing numbers n

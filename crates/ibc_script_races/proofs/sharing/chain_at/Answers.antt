@@ -1,9 +1,10 @@
 use Rattle.std.proofs.Common.{◌≡◌, ◌∙◌, sym}
-use Rattle.ibc_script_races.proofs.Receipts.{found_at, other_there, past_all}
+use Rattle.ibc_script_races.proofs.Receipts.{found_at, none_so, other_there, past_all}
 use Rattle.ibc_script_races.proofs.sharing.chain_at.Goals as goal
 
 pub returns-in_err-chain-clause-missing : goal.returns-in_err-chain-clause-missing
-returns-in_err-chain-clause-missing g c = past_all c.args.chains.now c.from.result c.args.number c.in_err-chain.ensures.lookup c.from.ensures
+returns-in_err-chain-clause-missing g c =
+    none_so c.from_residual.result (past_all c.args.chains.now c.from.result c.args.number c.in_err-chain.ensures.lookup c.from.ensures)
 
 pub returns-then-number-clause-there : goal.returns-then-number-clause-there
 returns-then-number-clause-there g c =

@@ -10,5 +10,5 @@ pub returns-in-None : goal.returns-in-None
 returns-in-None g c =
     inr (
       one_unasked c.self.inside.chains.items c.as_slice.result.now c.self.inside.receipts.items _ c.args.first c.args.second c.self.invariant c.self.view_is c.as_slice.ensures.value c.in-None.ensures.missing,
-      λ i. (c.new.ensures.items i, c.new-2.ensures.items i),
+      λ i. (c.new.ensures.items i, c.new-in-None.ensures.items i),
     )
