@@ -71,7 +71,7 @@ each_stands ledgers numbers (told ∷ logs) (c ∷ counts) same all counted =
 
 pub counted_race : (table : TableName) (genesis : GenesisState) (numbers : List ℕ) (receipts : List ReceiptModel) (logs : List (List ReceiptModel)) (all : List ReceiptModel) (readings : List LedgerModel)
     (steps : List Step) (audit : Audit) (own : ReceiptCounts) (relayers : Vec ReceiptCounts) (told : CountedRace) → IsAuditOf table genesis numbers all readings audit
-    → all ≡ receipts ++ flat_map (λ (told : List ReceiptModel). told) logs → AreTaken steps (map told_by receipts) → AreKept numbers receipts
+    → all ≡ receipts ++ flat_map (λ (told : List ReceiptModel). told) logs → AreTaken genesis steps (map told_by receipts) → AreKept numbers receipts
     → AreCountsOf receipts own → AllZip (IsCountedOn numbers) logs relayers.items → told.steps ≡ own → told.relayers ≡ relayers → told.audit.balances ≡ audit.balances → told.audit.notes ≡ audit.notes
     → IsCountedRaceOf genesis steps told
 counted_race table genesis numbers receipts logs all readings steps audit own relayers told is gathered taken kept own_counts each same_own same_relayers balances notes =

@@ -25,13 +25,13 @@ abbrev pub CountsWhatStands : List LedgerModel → List ReceiptModel → Receipt
 CountsWhatStands ledgers receipts counts = StandIn ledgers receipts × AreCountsOf receipts counts
 
 -- There are ledgers of the genesis that together did a lawful run of the machine, and hold what is told. The steps of the
--- script were taken. What they asked, and what each relayer did, is told by receipts: these stand in the histories of the
--- ledgers, and what is counted are these.
+-- script were taken, by what lawful ledgers of the genesis have. What they asked, and what each relayer did, is told by
+-- receipts: these stand in the histories of the ledgers, and what is counted are these.
 abbrev pub IsCountedRaceOf : GenesisState → List Step → CountedRace → Type 0
 IsCountedRaceOf genesis steps counted =
     (ledgers : List LedgerModel) × (asked : List ReceiptModel) × (relayed : List (List ReceiptModel))
     × All (λ (held : LedgerModel). held.ledger.genesis ≡ genesis) ledgers
     × AreLawful ledgers (record { balances = counted.audit.balances; notes = counted.audit.notes })
-    × AreTaken steps (map told_by asked)
+    × AreTaken genesis steps (map told_by asked)
     × CountsWhatStands ledgers asked counted.steps
     × AllZip (CountsWhatStands ledgers) relayed counted.relayers.items

@@ -140,7 +140,7 @@ fn take_all<R: Threads + Wait + Sync, W: WorldBrand + Send + Sync>(
     steps: Vec<Step>,
 ) -> Result<TakenRace<W>, Fault>
     requires { shared ≡ [] }
-    ensures taken { IfOk result (λ done. AreTaken steps.items (map told_by done.receipts.items)) }
+    ensures taken { IfOk result (λ done. AreTaken W.genesis steps.items (map told_by done.receipts.items)) }
     ensures kept { IfOk result (λ done. AreKept done.chains.items done.receipts.items) }
     ensures faults { IfErr result IsRunFault }
 {
@@ -170,7 +170,7 @@ fn take_each<R: Threads + Wait + Sync, W: WorldBrand + Send + Sync>(
     logs: &mut Vec<RelayerLog<W>>,
     steps: Vec<Step>,
 ) -> Result<(), Fault>
-    ensures taken { OnOk result (TakesAll runner.now.names.now steps.items shared.old shared.new) }
+    ensures taken { OnOk result (TakesAll W.genesis runner.now.names.now steps.items shared.old shared.new) }
     ensures faults { IfErr result IsRunFault }
 {
     for step in steps {
@@ -188,7 +188,7 @@ fn take<R: Threads + Wait + Sync, W: WorldBrand + Send + Sync>(
     logs: &mut Vec<RelayerLog<W>>,
     step: Step,
 ) -> Result<(), Fault>
-    ensures taken { OnOk result (Takes runner.now.names.now (asking_acts step) shared.old shared.new) }
+    ensures taken { OnOk result (Takes W.genesis runner.now.names.now (asking_acts step) shared.old shared.new) }
     ensures faults { IfErr result IsRunFault }
 {
     let raced = match &step {
@@ -244,7 +244,7 @@ fn relay_on<R: Threads + Wait + Sync, W: WorldBrand + Send + Sync>(
 // What chains come to, and what was answered.
 fn counted<W: WorldBrand>(alloc: Global, taken: TakenRace<W>) -> Result<CountedRace, Fault>
     requires { AreKept taken.chains.items taken.receipts.items }
-    ensures counted { ForTakenSteps (IsCountedRaceOf W.genesis) taken.receipts.items result }
+    ensures counted { ForTakenSteps IsCountedRaceOf W.genesis taken.receipts.items result }
     ensures faults { IfErr result IsScriptFault }
 {
     let TakenRace {

@@ -1,4 +1,5 @@
 pub mod Crossing
 pub mod Raced
+pub mod RacedLooks
 pub mod Receipts
 pub mod Standing

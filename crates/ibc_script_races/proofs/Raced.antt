@@ -38,7 +38,7 @@ has_ledger ledgers numbers told same kept =
 -- ---- what an audit says
 
 pub raced : (table : TableName) (genesis : GenesisState) (numbers : List ℕ) (receipts : List ReceiptModel) (readings : List LedgerModel) (steps : List Step) (audit : Audit) (told : RaceAudit)
-    → IsAuditOf table genesis numbers receipts readings audit → AreTaken steps (map told_by receipts) → AreKept numbers receipts
+    → IsAuditOf table genesis numbers receipts readings audit → AreTaken genesis steps (map told_by receipts) → AreKept numbers receipts
     → told.balances ≡ audit.balances → told.notes ≡ audit.notes → IsRaceOf genesis steps told
 raced table genesis numbers receipts readings steps audit told is taken kept balances notes =
     let same : audit ≡ record { balances = told.balances; notes = told.notes } = λ i. record { balances = sym balances i; notes = sym notes i } in
@@ -56,19 +56,19 @@ raced table genesis numbers receipts readings steps audit told is taken kept bal
 -- ---- what is done
 
 -- what was done, whatever was written
-pub unseen : {T E : Type 0} (names : List Text) (acts : List Act) (result : Result T E) (old new : List Happened) (before after : Option Text)
-    → Runs raced_chains names acts result old before new after → OnOk result (Takes names acts old new)
-unseen names acts (Ok x) old new before after r = record { count = r.count; text = r.text; reaches = r.reaches; appends = tt }
-unseen names acts (Err fault) old new before after s = tt
+pub unseen : {T E : Type 0} (genesis : GenesisState) (names : List Text) (acts : List Act) (result : Result T E) (old new : List Happened) (before after : Option Text)
+    → Runs (raced_chains genesis) names acts result old before new after → OnOk result (Takes genesis names acts old new)
+unseen genesis names acts (Ok x) old new before after r = record { count = r.count; text = r.text; reaches = r.reaches; appends = tt }
+unseen genesis names acts (Err fault) old new before after s = tt
 
-pub nothing_done : (names : List Text) (acts : List Act) (old : List Happened) → Reached raced_chains names acts old None acts old None
-nothing_done names acts old = record { count = 0; text = []; reaches = (refl, refl, refl); appends = tt }
+pub nothing_done : (genesis : GenesisState) (names : List Text) (acts : List Act) (old : List Happened) → Reached (raced_chains genesis) names acts old None acts old None
+nothing_done genesis names acts old = record { count = 0; text = []; reaches = (refl, refl, refl); appends = tt }
 
 -- what was asked in a race that began with nothing
-pub all_taken : (names : List Text) (steps : List Step) (old new asked : List Happened) → old ≡ [] → asked ≡ new → Takes names (flat_map asking_acts steps) old new
-    → AreTaken steps asked
-all_taken names steps old new asked none same taken = (
+pub all_taken : (genesis : GenesisState) (names : List Text) (steps : List Step) (old new asked : List Happened) → old ≡ [] → asked ≡ new
+    → Takes genesis names (flat_map asking_acts steps) old new → AreTaken genesis steps asked
+all_taken genesis names steps old new asked none same taken = (
   names,
-  subst (λ (r : List Happened). Takes names (flat_map asking_acts steps) [] r) (sym same)
-      (subst (λ (r : List Happened). Takes names (flat_map asking_acts steps) r new) none taken),
+  subst (λ (r : List Happened). Takes genesis names (flat_map asking_acts steps) [] r) (sym same)
+      (subst (λ (r : List Happened). Takes genesis names (flat_map asking_acts steps) r new) none taken),
 )

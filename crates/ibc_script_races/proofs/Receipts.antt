@@ -1,5 +1,5 @@
 -- The receipts that the main thread of a race keeps: each is of the chain that was asked, and stands behind the earlier ones.
-use Rattle.std.proofs.Common.{◌≡◌, ◌∙◌, ◌+◌, ◌<◌, ◌≤◌, ℕ, zero, suc, List, [], ◌∷◌, ◌++◌, Option, None, Some, Result, Ok, Err, IfOk, IfSome, OnErr, OnOk, Bor, ap, arith, inl, inr, length, map, option_map, refl, slice_get, sym, subst, ⊎_elim, ◌⊎◌}
+use Rattle.std.proofs.Common.{◌≡◌, ◌∙◌, ◌+◌, ◌<◌, ◌≤◌, ℕ, zero, suc, List, [], ◌∷◌, ◌++◌, Option, None, Some, Result, Ok, Err, IfNone, IfOk, IfSome, OnErr, OnOk, Bor, ap, arith, inl, inr, length, map, option_map, refl, slice_get, sym, subst, ⊎_elim, ◌⊎◌}
 use Rattle.std.specs.List.{All}
 use Rattle.std.specs.Slice.{IsItemAt}
 use Rattle.std.proofs.lemmas.List.{map-append}
@@ -14,13 +14,32 @@ use Rattle.ibc_machine.specs.promises.Histories.{Happened}
 use Rattle.ibc_root_table.proofs.Beginnings.{get_snoc}
 use Rattle.ibc_ledger_lock.specs.ReceiptsAndReadings.{IsBehind, IsReceiptOf, ReceiptModel}
 use Rattle.ibc_race.proofs.Booked.{at_place, from_places}
-use Rattle.ibc_script_races.specs.KeptReceipts.{AreInOrder, AreKept, IsKept, IsLastOf, told_by}
+use Rattle.ibc_script_races.specs.KeptReceipts.{AreInOrder, AreKept, IsKept, IsLastOf, IsMissing, told_by}
 use Rattle.ibc_script_races.specs.Racing.{IsAsked}
 
 -- a chain that is read at its number's place
 pub found_at : (numbers : List ℕ) (i n : ℕ) (b : Bor ℕ) → IsItemAt numbers i (Some b) → i ≡ n → b.now ≡ n → slice_get numbers n ≡ Some n
 found_at numbers i n b is place number =
     ap (slice_get numbers) (sym place) ∙ slice_get_read numbers (length numbers) i b.now refl is.3.0 is.1 ∙ ap Some number
+
+-- what is so of an option that is none
+pub none_so : {A P : Type 0} (o : Option A) → P → IfNone o P
+none_so None is = is
+none_so (Some x) is = tt
+
+-- where none is read, none stands there
+pub past_all : (numbers : List ℕ) (i n : ℕ) → IsItemAt numbers i None → i ≡ n → IsMissing numbers n
+past_all numbers i n is place at =
+    let within = slice_get_within numbers n n at in
+    let past : length numbers ≤ i = is.3 in
+    omega (arith, place, past, within)
+
+-- where one of another number is read
+pub other_there : (numbers : List ℕ) (i n : ℕ) (b : Bor ℕ) → IsItemAt numbers i (Some b) → i ≡ n → (b.now ≡ n → ⊥) → IsMissing numbers n
+other_there numbers i n b is place other at =
+    let there : slice_get numbers n ≡ Some b.now = ap (slice_get numbers) (sym place) ∙ slice_get_read numbers (length numbers) i b.now refl is.3.0 is.1 in
+    let both : Some b.now ≡ Some n = sym there ∙ at in
+    other cc
 
 before_or : (m n : ℕ) → (m < n) ⊎ (n ≤ m)
 before_or zero zero = inr (omega arith)

@@ -16,6 +16,10 @@ told_by told = (told.event, told.reply)
 abbrev pub IsAtItsPlace : List ℕ → ℕ → Bor ℕ → Type 0
 IsAtItsPlace numbers number = λ chain. (chain.now ≡ number) × (slice_get numbers number ≡ Some number)
 
+-- no chain of this number stands at its number's place
+abbrev pub IsMissing : List ℕ → ℕ → Type 0
+IsMissing numbers number = slice_get numbers number ≡ Some number → ⊥
+
 -- the receipt is of its event's chain, which stands at its number's place among the chains, and memory didn't run out
 pub record IsKept (numbers : List ℕ) (told : ReceiptModel) : Type 0 where
   pub of_event : told.chain ≡ chain_of told.event

@@ -1,2 +1,3 @@
 pub mod KeptReceipts
+pub mod RacedReads
 pub mod Racing

@@ -3,6 +3,7 @@
 
 mod program;
 mod racing;
+mod reading;
 mod sharing;
 
 pub use program::drive_on_ledgers;

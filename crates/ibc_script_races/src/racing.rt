@@ -147,7 +147,7 @@ fn take_all<R: Threads + Wait + Sync, W: WorldBrand + Send + Sync>(
 ) -> Result<(Vec<Chain<W>>, Vec<Receipt<W>>), Fault>
     requires few { 1 ≤ relayers × relayers ≤ 8 }
     requires new { shared ≡ [] }
-    ensures taken { IfOk result (λ done. AreTaken steps.items (map told_by done.1.items)) }
+    ensures taken { IfOk result (λ done. AreTaken W.genesis steps.items (map told_by done.1.items)) }
     ensures kept { IfOk result (λ done. AreKept done.0.items done.1.items) }
     ensures faults { IfErr result IsRunFault }
 {
@@ -168,7 +168,7 @@ fn take_each<R: Threads + Wait + Sync, W: WorldBrand + Send + Sync>(
     steps: Vec<Step>,
 ) -> Result<(), Fault>
     requires few { 1 ≤ relayers × relayers ≤ 8 }
-    ensures taken { OnOk result (TakesAll runner.now.names.now steps.items shared.old shared.new) }
+    ensures taken { OnOk result (TakesAll W.genesis runner.now.names.now steps.items shared.old shared.new) }
     ensures faults { IfErr result IsRunFault }
 {
     for step in steps {
@@ -185,7 +185,7 @@ fn take<R: Threads + Wait + Sync, W: WorldBrand + Send + Sync>(
     step: Step,
 ) -> Result<(), Fault>
     requires { 1 ≤ relayers × relayers ≤ 8 }
-    ensures taken { OnOk result (Takes runner.now.names.now (asking_acts step) shared.old shared.new) }
+    ensures taken { OnOk result (Takes W.genesis runner.now.names.now (asking_acts step) shared.old shared.new) }
     ensures faults { IfErr result IsRunFault }
 {
     let raced = match &step {
@@ -212,7 +212,7 @@ fn audited<W: WorldBrand>(
     receipts: Vec<Receipt<W>>,
 ) -> Result<RaceAudit, Fault>
     requires { AreKept chains.items receipts.items }
-    ensures raced { ForTakenSteps (IsRaceOf W.genesis) receipts.items result }
+    ensures raced { ForTakenSteps IsRaceOf W.genesis receipts.items result }
     ensures faults { IfErr result IsScriptFault }
 {
     let readings = Vec::new(alloc);

@@ -1,18 +1,19 @@
 //! Chains that threads share, as the steps of a script see them.
 
-ghost use Rattle.std.specs.Prelude.{◌≡◌, ◌≤◌, ◌++◌, ◌∷◌, [], IfSome, IsOkUnless, OnErr, OnOk, IfOk, map, option_map, true};
+ghost use Rattle.std.specs.Prelude.{◌≡◌, ◌⊎◌, ◌≤◌, ◌++◌, ◌∷◌, [], IfNone, IfSome, IsOkUnless, OnErr, OnOk, IfOk, map, option_map, true};
 ghost use Rattle.ibc_ids.specs.declared.refusal.Refusal.TheVariants.{NoMemory};
 ghost use Rattle.ibc_machine.specs.declared.reply.Reply.TheVariants as answer;
 ghost use Rattle.ibc_machine.specs.ledger.Ledgers.{chain_of};
 ghost use Rattle.ibc_ledger_lock.specs.ReceiptsAndReadings.{IsBehind, IsReceiptOf};
-ghost use Rattle.ibc_script_races.specs.KeptReceipts.{AreInOrder, AreKept, IsAtItsPlace, IsLastOf, told_by};
+ghost use Rattle.ibc_script_races.specs.KeptReceipts.{AreInOrder, AreKept, IsAtItsPlace, IsLastOf, IsMissing, told_by};
 ghost use Rattle.ibc_script_races.specs.Racing.{raced_chains};
 
+use crate::reading::{block_of, planned, proof_of, time_of};
 use ibc_ids::{Bytes, ChannelId, Key, PortId, Refusal};
 use ibc_ledger_lock::{Chain, Receipt, WorldBrand};
 use ibc_machine::{Event, Reply};
 use ibc_merkle::Proof;
-use ibc_relayer::{plans, relay_all};
+use ibc_relayer::relay_all;
 use ibc_script_cli::{Chains, CommittedBlock};
 use ibc_script_worlds::ChainStarts;
 use ibc_wire::{Message, Packet};
@@ -118,7 +119,8 @@ fn number_of(event: &Event) -> u8
 
 /// The chain of a number, none where it doesn't stand at its number's place.
 pub fn chain_at<W: WorldBrand>(chains: &[Chain<W>], number: u8) -> Option<&Chain<W>>
-    ensures { IfSome result (IsAtItsPlace chains.now number) }
+    ensures there { IfSome result (IsAtItsPlace chains.now number) }
+    ensures missing { IfNone result (IsMissing chains.now number) }
 {
     let chain = chains.get(usize::from(number))?;
     if chain.number() == number {
@@ -126,6 +128,20 @@ pub fn chain_at<W: WorldBrand>(chains: &[Chain<W>], number: u8) -> Option<&Chain
     } else {
         None
     }
+}
+
+// The chains of two numbers, none where one of them doesn't stand at its number's place.
+fn both_at<W: WorldBrand>(
+    chains: &[Chain<W>],
+    first: u8,
+    second: u8,
+) -> Option<(&Chain<W>, &Chain<W>)>
+    ensures there { IfSome result (λ both. (both.0.now ≡ first) × (both.1.now ≡ second)) }
+    ensures missing { IfNone result (IsMissing chains.now first ⊎ IsMissing chains.now second) }
+{
+    let one = chain_at(chains, first)?;
+    let other = chain_at(chains, second)?;
+    Some((one, other))
 }
 
 /// The last of these receipts that is of the chain, none where none is.
@@ -202,7 +218,7 @@ pub fn keep<W: WorldBrand>(
 }
 
 impl<R: Wait, W: WorldBrand> Chains for Shared<'_, R, W> {
-    ghost known = { raced_chains };
+    ghost known = { raced_chains W.genesis };
 
     fn ask(&mut self, event: Event) -> Result<Reply, Refusal> {
         let number = number_of(&event);
@@ -216,8 +232,8 @@ impl<R: Wait, W: WorldBrand> Chains for Shared<'_, R, W> {
     }
 
     fn value(&self, chain: u8, key: &Key) -> Result<Option<Bytes>, Refusal> {
-        match self.chain(chain) {
-            Some(chain) => chain.query(self.rt, key).0,
+        match chain_at(self.chains.as_slice(), chain) {
+            Some(shared) => shared.query(self.rt, key).0,
             None => Ok(None),
         }
     }
@@ -229,8 +245,8 @@ impl<R: Wait, W: WorldBrand> Chains for Shared<'_, R, W> {
         channel: &ChannelId,
         sequence: u64,
     ) -> Result<Option<Packet>, Refusal> {
-        match self.chain(chain) {
-            Some(chain) => chain.packet(self.rt, port, channel, sequence).0,
+        match chain_at(self.chains.as_slice(), chain) {
+            Some(shared) => shared.packet(self.rt, port, channel, sequence).0,
             None => Ok(None),
         }
     }
@@ -242,52 +258,37 @@ impl<R: Wait, W: WorldBrand> Chains for Shared<'_, R, W> {
         channel: &ChannelId,
         sequence: u64,
     ) -> Result<Option<Bytes>, Refusal> {
-        match self.chain(chain) {
-            Some(chain) => chain.ack(self.rt, port, channel, sequence).0,
+        match chain_at(self.chains.as_slice(), chain) {
+            Some(shared) => shared.ack(self.rt, port, channel, sequence).0,
             None => Ok(None),
         }
     }
 
     fn proof(&self, chain: u8, height: u64, key: &Key) -> Result<Option<Proof>, Refusal> {
-        let Some(chain) = self.chain(chain) else {
-            return Ok(None);
-        };
-        let answer = chain.query_proof(self.rt, height, key).0;
-        match answer {
-            Ok(proof) => Ok(Some(proof)),
-            Err(Refusal::NoConsensus) => Ok(None),
-            Err(refusal) => Err(refusal),
+        match chain_at(self.chains.as_slice(), chain) {
+            Some(shared) => proof_of(self.rt, shared, height, key),
+            None => Ok(None),
         }
     }
 
     fn block(&self, chain: u8, height: u64) -> Option<CommittedBlock> {
-        let starts = &self.starts;
-        let shared = self.chain(chain)?;
-        let read = shared.events_from(self.rt, 0, |history| {
-            starts.block(chain, history, height)
-        });
-        read.0
+        match chain_at(self.chains.as_slice(), chain) {
+            Some(shared) => block_of(self.rt, &self.starts, shared, height),
+            None => None,
+        }
     }
 
     fn working_time(&self, chain: u8) -> Result<u64, Refusal> {
-        match self.chain(chain) {
-            Some(chain) => {
-                let looked = chain.look(self.rt);
-                let time = looked.0.map(|view| view.working_time());
-                time
-            }
+        match chain_at(self.chains.as_slice(), chain) {
+            Some(shared) => time_of(self.rt, shared),
             None => Ok(0),
         }
     }
 
     fn plans(&self, first: u8, second: u8) -> Result<(Vec<Message>, Vec<Message>), Refusal> {
-        match (self.chain(first), self.chain(second)) {
-            (Some(first), Some(second)) => {
-                let (of_first, _) = first.view();
-                let (of_second, _) = second.view();
-                plans(self.alloc, of_first, of_second)
-            }
-            _ => Ok((Vec::new(self.alloc), Vec::new(self.alloc))),
+        match both_at(self.chains.as_slice(), first, second) {
+            Some(both) => planned(self.alloc, both.0, both.1),
+            None => Ok((Vec::new(self.alloc), Vec::new(self.alloc))),
         }
     }
 }

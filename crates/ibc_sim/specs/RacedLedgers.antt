@@ -9,12 +9,13 @@ use Rattle.ibc_script.specs.declared.script.Step.{Step}
 use Rattle.ibc_script_races.specs.KeptReceipts.{told_by}
 use Rattle.ibc_script_races.specs.Racing.{AreTaken}
 
--- the main thread took these steps, and the ledgers have answered what it asked of their chains
-abbrev pub HaveTaken : List Step → List LedgerModel → Type 0
-HaveTaken steps ledgers =
-    (receipts : List ReceiptModel) × AreTaken steps (map told_by receipts) × All (HasAnswered receipts) ledgers
+-- the main thread took these steps, by what lawful ledgers of the genesis have, and the ledgers have answered what it asked of
+-- their chains
+abbrev pub HaveTaken : GenesisState → List Step → List LedgerModel → Type 0
+HaveTaken genesis steps ledgers =
+    (receipts : List ReceiptModel) × AreTaken genesis steps (map told_by receipts) × All (HasAnswered receipts) ledgers
 
 -- they are of one world, which began with this genesis, and have taken the steps
 abbrev pub AreLeftBy : GenesisState → List Step → List LedgerModel → Type 0
 AreLeftBy genesis steps ledgers =
-    AreOfOneWorld ledgers × All (λ (held : LedgerModel). held.ledger.genesis ≡ genesis) ledgers × HaveTaken steps ledgers
+    AreOfOneWorld ledgers × All (λ (held : LedgerModel). held.ledger.genesis ≡ genesis) ledgers × HaveTaken genesis steps ledgers

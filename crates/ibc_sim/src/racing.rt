@@ -112,7 +112,7 @@ fn take_each<R: Threads + Wait + Sync, W: WorldBrand + Send + Sync>(
     steps: Vec<Step>,
 ) -> Result<(), Fault>
     requires { 1 ≤ relayers × relayers ≤ 8 }
-    ensures { OnOk result (TakesAll runner.now.names.now steps.items shared.old shared.new) }
+    ensures { OnOk result (TakesAll W.genesis runner.now.names.now steps.items shared.old shared.new) }
 {
     for step in steps {
         take(relayers, runner, shared, step)?;
@@ -128,7 +128,7 @@ fn take<R: Threads + Wait + Sync, W: WorldBrand + Send + Sync>(
     step: Step,
 ) -> Result<(), Fault>
     requires { 1 ≤ relayers × relayers ≤ 8 }
-    ensures { OnOk result (Takes runner.now.names.now (asking_acts step) shared.old shared.new) }
+    ensures { OnOk result (Takes W.genesis runner.now.names.now (asking_acts step) shared.old shared.new) }
 {
     let raced = match &step {
         Step::Relay {

@@ -4,4 +4,4 @@ use Rattle.ibc_race_counts.proofs.racing.take.Goals as goal
 
 pub returns-in-Ok-clause-taken : goal.returns-in-Ok-clause-taken
 returns-in-Ok-clause-taken g c =
-    unseen c.args.runner.now.names.now (asking_acts c.args.step) c.act.result c.args.shared.now c.act.new.chains _ _ c.act.ensures.ran
+    unseen g.W.WorldBrand.genesis c.args.runner.now.names.now (asking_acts c.args.step) c.act.result c.args.shared.now c.act.new.chains _ _ c.act.ensures.ran

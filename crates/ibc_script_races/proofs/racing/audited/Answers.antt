@@ -9,5 +9,5 @@ pub returns-in-Ok-clause-raced : goal.returns-in-Ok-clause-raced
 returns-in-Ok-clause-raced g c steps taken =
     let same = sym c.as_slice.ensures.value in
     raced g.W.WorldBrand.table g.W.WorldBrand.genesis c.args.chains.items c.as_slice.result.now _ steps c.in-Ok.audit c.told.result c.in-Ok.ensures.audited
-    (subst (λ (r : List ReceiptModel). AreTaken steps (map told_by r)) same taken) (subst (AreKept c.args.chains.items) same c.requires)
+    (subst (λ (r : List ReceiptModel). AreTaken g.W.WorldBrand.genesis steps (map told_by r)) same taken) (subst (AreKept c.args.chains.items) same c.requires)
     c.told.ensures.0 c.told.ensures.1

@@ -15,12 +15,12 @@ loop-step-preserved g c = record {
       let one_less = c.in-Some.ensures.steps.1 in
       let counted = c.loop-step.invariant.counted in
       omega arith;
-  taken = goes_on raced_chains c.args.runner.now.names.now (asking_acts c.in-Some.step) (flat_map asking_acts (into_iter_items c.next.new.self))
-      (subst (λ (l : List Step). Reached raced_chains c.args.runner.now.names.now (flat_map asking_acts c.args.steps.items) c.args.shared.now None (flat_map asking_acts l) c.loop-step.shared None) c.in-Some.ensures.steps.0 c.loop-step.invariant.taken)
+  taken = goes_on (raced_chains g.W.WorldBrand.genesis) c.args.runner.now.names.now (asking_acts c.in-Some.step) (flat_map asking_acts (into_iter_items c.next.new.self))
+      (subst (λ (l : List Step). Reached (raced_chains g.W.WorldBrand.genesis) c.args.runner.now.names.now (flat_map asking_acts c.args.steps.items) c.args.shared.now None (flat_map asking_acts l) c.loop-step.shared None) c.in-Some.ensures.steps.0 c.loop-step.invariant.taken)
       c.in_ok-take.ensures.taken;
 }
 
 pub returns-clause-taken : goal.returns-clause-taken
 returns-clause-taken g c =
     let none = nil_from_length (into_iter_items c.loop-step.step-iterator) (sym c.loop-step.invariant.counted ∙ c.in-None.ensures.steps.0) in
-    subst (λ (l : List Step). Reached raced_chains c.args.runner.now.names.now (flat_map asking_acts c.args.steps.items) c.args.shared.now None (flat_map asking_acts l) c.loop-step.shared None) none c.loop-step.invariant.taken
+    subst (λ (l : List Step). Reached (raced_chains g.W.WorldBrand.genesis) c.args.runner.now.names.now (flat_map asking_acts c.args.steps.items) c.args.shared.now None (flat_map asking_acts l) c.loop-step.shared None) none c.loop-step.invariant.taken

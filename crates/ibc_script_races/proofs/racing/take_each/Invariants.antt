@@ -8,5 +8,5 @@ use Rattle.ibc_script_races.proofs.racing.take_each.Given as goal
 abbrev pub invariant-loop-step : goal.invariant-loop-step
 invariant-loop-step g l = record {
   counted : into_iter_len l.step-iterator ≡ length (into_iter_items l.step-iterator);
-  taken : Reached raced_chains l.runner.names.now (flat_map asking_acts l.fn.steps.items) l.fn.shared None (flat_map asking_acts (into_iter_items l.step-iterator)) l.shared None;
+  taken : Reached (raced_chains g.W.WorldBrand.genesis) l.runner.names.now (flat_map asking_acts l.fn.steps.items) l.fn.shared None (flat_map asking_acts (into_iter_items l.step-iterator)) l.shared None;
 }

@@ -16,7 +16,7 @@ returns-in-Ok-ledgers_of g c new =
     let own : All Own ledgers = c.in-Ok-ledgers_of.ensures.world in
     let answered : All (HasAnswered receipts) ledgers =
     subst (λ (those : List ReceiptModel). All (HasAnswered those) ledgers) c.as_slice.ensures.value c.in-Ok-ledgers_of.ensures.answered in
-    let taken = all_taken c.new-runner.result.names.now c.args.steps.items c.args.shared c.take_each.new.shared (map told_by receipts) new
+    let taken = all_taken g.W.WorldBrand.genesis c.new-runner.result.names.now c.args.steps.items c.args.shared c.take_each.new.shared (map told_by receipts) new
     c.into_parts-parts.ensures.asked c.in-Ok.ensures in (
       λ first at k held there.
           let a = at_place Own ledgers 0 first own at in

@@ -8,7 +8,7 @@ use Rattle.ibc_script_races.proofs.Receipts.{behind_all, kept, mapped_some, stay
 use Rattle.ibc_script_races.proofs.sharing.SharedChains.ask.Goals as goal
 
 pub asked-receipt-requires : goal.asked-receipt-requires
-asked-receipt-requires g c = c.in-Some.ensures.0 ∙ c.number_of-number.ensures
+asked-receipt-requires g c = c.in-Some.ensures.there.0 ∙ c.number_of-number.ensures
 
 pub invariant_of-self : goal.invariant_of-self
 invariant_of-self g c =
@@ -21,7 +21,7 @@ invariant_of-self g c =
     let behind : All (IsBehind told) old =
     subst (All (IsBehind told)) c.as_slice-2.ensures.value (behind_all c.as_slice-2.result.now _ told number of c.last_of-earlier.ensures after_last) in
     let there : slice_get numbers told.chain ≡ Some told.chain =
-    subst (λ (k : ℕ). slice_get numbers k ≡ Some k) (sym of) (subst (λ (l : List ℕ). slice_get l number ≡ Some number) c.as_slice.ensures.value c.in-Some.ensures.1) in
+    subst (λ (k : ℕ). slice_get numbers k ≡ Some k) (sym of) (subst (λ (l : List ℕ). slice_get l number ≡ Some number) c.as_slice.ensures.value c.in-Some.ensures.there.1) in
     stay_so numbers c.keep.result told c.args.event old c.keep.new.receipts.items c.self.invariant c.asked-receipt.ensures.told there behind c.keep.ensures.kept
     c.keep.ensures.left c.keep.ensures.told c.keep.ensures.answered
 
