@@ -210,11 +210,3 @@ none_comes pairs waiting is first =
 
 pub some_waits : (pairs waiting : Pairs) → waiting ≡ [] → waits_first pairs waiting ≡ false
 some_waits pairs waiting is = ap (waits_first pairs) is
-
--- none is lost
-pub rows_counted : (settled : ℕ) (items : Pairs) → settled ≤ length items → length (settled_pairs settled items) ≡ length items
-rows_counted settled items within =
-    let a = length-merged (take settled items) (drop settled items) in
-    let b = length-take-le settled items within in
-    let c = length-drop settled items in
-    omega arith
