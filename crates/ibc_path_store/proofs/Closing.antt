@@ -2,10 +2,10 @@
 use Rattle.std.proofs.Common.{◌≡◌, ℕ, zero, suc, ◌+◌, ◌-◌, ◌<◌, ◌≤◌, List, [], ◌∷◌, ◌++◌, length, get_or, take, drop, refl, sym, ap, ap₂, ◌∙◌, subst, arith, take-append-drop, length-append, length-drop}
 use Rattle.std.proofs.Math.Seq.{take-suc, drop-cons}
 use Rattle.ibc_ids.specs.Texts.{Text}
-use Rattle.std.proofs.lemmas.List.{append_assoc, take_at, drop_at, length-take-le, drop-drop, take_all, drop_all}
+use Rattle.std.proofs.lemmas.List.{append_assoc, take_at, drop_at, length-take-le, drop-drop, get_or_default}
 use Rattle.ibc_merkle.specs.Tree.{Pairs}
 
-use Rattle.ibc_path_store.specs.Waiting.{without_rows, AreRisingRows}
+use Rattle.ibc_path_store.specs.Waiting.{without_rows, AreRisingRows, rotated_between}
 use Rattle.ibc_path_store.proofs.Standing.{remove_front}
 use Rattle.ibc_path_store.proofs.Leaving.{rising-parted, without-front, without-both}
 
@@ -35,12 +35,6 @@ pub record AreClosed (items entries : Pairs) (gone : List ℕ) (number row : ℕ
   pub counted : length entries ≡ length items
   pub left : take (row - number) entries ≡ without_rows (take number gone) (take row items)
   pub rest : drop row entries ≡ drop row items
-
-pub closed_none : (items : Pairs) (gone : List ℕ) (row : ℕ) → AreClosed items items gone 0 row
-closed_none items gone row = record { counted = refl; left = refl; rest = refl }
-
-pub closed_all : (items entries : Pairs) (gone : List ℕ) → AreClosed items entries gone (length gone) (length items) → take (length items - length gone) entries ≡ without_rows gone items
-closed_all items entries gone closed = closed.left ∙ ap₂ without_rows (take_all gone) (take_all items)
 
 -- in parts: those that are left, those that are moved, the one of the row, those up to the next row, and the rest
 closed_parts : (items left moved block rest front : Pairs) (x : Text × Text) (before : List ℕ) (gone : List ℕ) (number row end : ℕ) → length left ≡ row - number → length moved ≡ number → length front ≡ row
@@ -77,7 +71,7 @@ closed_parts items left moved block rest front x before gone number row end left
           ∙ sym (ap (drop end) front_is ∙ drop_at (front ++ x ∷ block) rest end whole);
     }
 
-pub closed_further : (items entries rotated : Pairs) (gone : List ℕ) (number row end start : ℕ) → AreRisingRows 0 gone (length items) → number < length gone → row ≡ get_or gone number (length items)
+closed_further : (items entries rotated : Pairs) (gone : List ℕ) (number row end start : ℕ) → AreRisingRows 0 gone (length items) → number < length gone → row ≡ get_or gone number (length items)
     → end ≡ get_or gone (suc number) (length items) → start + number ≡ row → AreClosed items entries gone number row
     → rotated ≡ drop (suc number) (take (end - start) (drop start entries)) ++ take (suc number) (take (end - start) (drop start entries))
     → AreClosed items (take start entries ++ (rotated ++ drop (end - start) (drop start entries))) gone (suc number) end
@@ -129,3 +123,39 @@ closed_further items entries rotated gone number row end start rising there row_
     let left_are : left ≡ without_rows before front = ap (λ n. take n entries) (let s : start ≡ row - number = omega arith in s) ∙ closed.left in
     subst (λ (es : Pairs). AreClosed items (left ++ es) gone (suc number) end) (sym (ap₂ (λ (xs ys : Pairs). xs ++ ys) rotated_are left_over))
     (closed_parts items left moved block rest front x before gone number row end left_counted moved_counted front_counted (omega arith) next block_counted rise taken items_are left_are)
+
+-- the next step: what stands behind the row is moved up to where those that are left end
+pub closed_next : (items entries after : Pairs) (gone : List ℕ) (number end : ℕ) → AreRisingRows 0 gone (length items) → number < length gone → AreClosed items entries gone number (get_or gone number (length items))
+    → end ≡ get_or gone (number + 1) (length entries) → after ≡ rotated_between (get_or gone number 0 - number) end (number + 1) entries
+    → AreClosed items after gone (number + 1) (get_or gone (number + 1) (length items))
+closed_next items entries after gone number end rising there closed end_is after_is =
+    let all = length items in
+    let row = get_or gone number all in
+    let one : number + 1 ≡ suc number = omega arith in
+    let same : get_or gone number 0 ≡ row = get_or_default gone number 0 all there in
+    let ends : end ≡ get_or gone (suc number) all = end_is ∙ ap₂ (λ k d. get_or gone k d) one closed.counted in
+    let low = row-counted 0 gone all number all rising there in
+    let starts : row - number + number ≡ row = omega arith in
+    let is : after ≡ rotated_between (row - number) end (suc number) entries = after_is ∙ ap₂ (λ r k. rotated_between (r - number) end k entries) same one in
+    subst (λ (es : Pairs). AreClosed items es gone (number + 1) (get_or gone (number + 1) all)) (sym is)
+    (subst (λ k. AreClosed items (rotated_between (row - number) end (suc number) entries) gone k (get_or gone k all)) (sym one)
+    (subst (AreClosed items (rotated_between (row - number) end (suc number) entries) gone (suc number)) ends
+    (closed_further items entries _ gone number row end (row - number) rising there refl ends starts closed refl)))
+
+pub record FitsIn (start count end entries : ℕ) : Type 0 where
+  pub within : start + count ≤ end
+  pub inside : end ≤ entries
+
+-- there is room for it
+pub fits_next : (items entries : Pairs) (gone : List ℕ) (number end : ℕ) → AreRisingRows 0 gone (length items) → number < length gone → AreClosed items entries gone number (get_or gone number (length items))
+    → end ≡ get_or gone (number + 1) (length entries) → FitsIn (get_or gone number 0 - number) (number + 1) end (length entries)
+fits_next items entries gone number end rising there closed end_is =
+    let all = length items in
+    let one : number + 1 ≡ suc number = omega arith in
+    let same : get_or gone number 0 ≡ get_or gone number all = get_or_default gone number 0 all there in
+    let ends : end ≡ get_or gone (suc number) all = end_is ∙ ap₂ (λ k d. get_or gone k d) one closed.counted in
+    let low = row-counted 0 gone all number all rising there in
+    let next = row-next 0 gone all number rising there in
+    let within = row-within 0 gone all (suc number) rising in
+    let counted = closed.counted in
+    record { within = omega arith; inside = omega arith }

@@ -40,7 +40,7 @@ pub record Parted (first : ℕ) (before : List ℕ) (row : ℕ) (behind : List �
   pub before_rise : AreRisingRows first before row
   pub behind_rise : AreRisingRows (suc row) behind end
 
-rising-parted : (first : ℕ) (before : List ℕ) (row : ℕ) (behind : List ℕ) (end : ℕ) → AreRisingRows first (before ++ row ∷ behind) end → Parted first before row behind end
+pub rising-parted : (first : ℕ) (before : List ℕ) (row : ℕ) (behind : List ℕ) (end : ℕ) → AreRisingRows first (before ++ row ∷ behind) end → Parted first before row behind end
 rising-parted first [] row behind end rising = record { from = rising.0; to = rising.1; before_rise = tt; behind_rise = rising.2 }
 rising-parted first (x ∷ before) row behind end rising =
     let a = rising.0 in
@@ -129,6 +129,8 @@ remove_is_sorted es i sorted = sorted_from_rising _ (rising-remove es i (rising_
 
 -- a row is one of them, behind so many others
 pub record IsAmong (rows : List ℕ) (row number end : ℕ) : Type 0 where
+  pub few : number ≤ row
+  pub within : row < end
   pub before : List ℕ
   pub behind : List ℕ
   pub parts : rows ≡ before ++ row ∷ behind
@@ -138,6 +140,7 @@ pub record IsAmong (rows : List ℕ) (row number end : ℕ) : Type 0 where
 
 -- a row is none of them, and so many are before it
 pub record IsBetween (rows : List ℕ) (row number end : ℕ) : Type 0 where
+  pub few : number ≤ row
   pub before : List ℕ
   pub behind : List ℕ
   pub parts : rows ≡ before ++ behind
@@ -177,11 +180,14 @@ row_among rows row number end rising is there =
     let same : row ≡ get_or rows number row = sym found.1 ∙ get_or_default rows number 0 row there in
     let parts : rows ≡ take number rows ++ row ∷ drop (suc number) rows = parts_at rows number row there same in
     let parted = rising-parted 0 (take number rows) row (drop (suc number) rows) end (subst (λ rs. AreRisingRows 0 rs end) parts rising) in
+    let counted : length (take number rows) ≡ number = length-take-le number rows (omega arith) in
     record {
+      few = let a = rising-counted 0 (take number rows) row (omega arith) parted.before_rise in omega arith;
+      within = parted.to;
       before = take number rows;
       behind = drop (suc number) rows;
       parts = parts;
-      counted = length-take-le number rows (omega arith);
+      counted = counted;
       before_rise = parted.before_rise;
       behind_rise = parted.behind_rise;
     }
@@ -189,12 +195,15 @@ row_among rows row number end rising is there =
 pub row_between : (rows : List ℕ) (row number end : ℕ) → AreRisingRows 0 rows end → IsBinarySearchResult (λ y. nat_cmp y row) rows (Err number) → number ≤ length rows → IsBetween rows row number end
 row_between rows row number end rising is there =
     let missed = searched rows row (Err number) is (λ i j l h. rises 0 rows end i j rising l h) in
+    let rise : AreRisingRows 0 (take number rows) row = before_row 0 rows end number row rising missed.1 there in
+    let counted : length (take number rows) ≡ number = length-take-le number rows there in
     record {
+      few = let a = rising-counted 0 (take number rows) row (omega arith) rise in omega arith;
       before = take number rows;
       behind = drop number rows;
       parts = sym (take-append-drop number rows);
-      counted = length-take-le number rows there;
-      before_rise = before_row 0 rows end number row rising missed.1 there;
+      counted = counted;
+      before_rise = rise;
       behind_rise = behind_row 0 rows end number row rising missed.2;
     }
 
@@ -291,9 +300,9 @@ missed_behind gone before behind placed key row number end missed parts counted 
     (ap₂ without_rows parts missed.parts ∙ left_past before behind missed.low missed.high row end missed.counted rise rest)
     missed.counted counted rise missed.below (all-without (λ (e : Text × Text). text_cmp key e.0 ≡ Less) (rows_from row behind) missed.high missed.above) refl
 
-pub missed_gone : (gone : List ℕ) (placed : Pairs) (key : Text) (row number end : ℕ) → row < end → Missed placed key row → IsAmong gone row number end → IsLeftOut gone placed key (row - number)
-missed_gone gone placed key row number end l missed among =
-    missed_behind gone among.before (row ∷ among.behind) placed key row number end missed among.parts among.counted among.before_rise (omega arith, l, among.behind_rise)
+pub missed_gone : (gone : List ℕ) (placed : Pairs) (key : Text) (row number end : ℕ) → Missed placed key row → IsAmong gone row number end → IsLeftOut gone placed key (row - number)
+missed_gone gone placed key row number end missed among =
+    missed_behind gone among.before (row ∷ among.behind) placed key row number end missed among.parts among.counted among.before_rise (omega arith, among.within, among.behind_rise)
 
 pub missed_left : (gone : List ℕ) (placed : Pairs) (key : Text) (row number end : ℕ) → Missed placed key row → IsBetween gone row number end → IsLeftOut gone placed key (row - number)
 missed_left gone placed key row number end missed between =
@@ -337,3 +346,7 @@ found_left gone placed key row number there here found between =
           subst (λ rows. AreRisingRows 0 rows (length placed)) (sym row_is)
           (rising-joined 0 before row behind (length placed) (omega arith) there between.before_rise between.behind_rise);
     }
+
+-- so many rows are gone at most as there are before an end
+pub gone_counted : (end : ℕ) (gone : List ℕ) → AreRisingRows 0 gone end → length gone ≤ end
+gone_counted end gone rising = let a = rising-counted 0 gone end (omega arith) rising in omega arith

@@ -13,7 +13,7 @@ use Rattle.ibc_path_store.specs.GapChanges.{IsReplaced}
 use Rattle.ibc_path_store.specs.Waiting.{merged, without_rows, with_row, AreRisingRows, settled_pairs, AreRows, StandsInRow, StandsAt, FitsAt}
 use Rattle.ibc_path_store.proofs.Standing.{Stands, Fits, Found, Missed, found_at, missed_at, cut_found, cut_missed, pairs_cut, rows_cut, finds_waiting, finds_placed, finds_none}
 use Rattle.ibc_path_store.proofs.Merging.{length-merged}
-use Rattle.ibc_path_store.proofs.Leaving.{IsLeftOut, rising-counted, length-without, without-front, without_is_sorted}
+use Rattle.ibc_path_store.proofs.Leaving.{IsLeftOut, length-without, without-front, without_is_sorted}
 
 -- ---- edits behind a part
 
@@ -29,7 +29,7 @@ behind_remove xs ys n j counted = remove-append_right xs ys n (n + j) counted (o
 behind_insert : (xs ys : Pairs) (n j : ℕ) (y : Text × Text) → length xs ≡ n → insert (xs ++ ys) (n + j) y ≡ xs ++ insert ys j y
 behind_insert xs ys n j y counted = insert-append_right xs ys n (n + j) y counted (omega arith) ∙ ap (λ k. xs ++ insert ys k y) (let g : n + j - n ≡ j = omega arith in g)
 
-length-with_row : (row : ℕ) (rows : List ℕ) → length (with_row row rows) ≡ suc (length rows)
+pub length-with_row : (row : ℕ) (rows : List ℕ) → length (with_row row rows) ≡ suc (length rows)
 length-with_row row [] = refl
 length-with_row row (next ∷ rows) =
     elim (nat_lt row next) as (λ b. length (cond b (row ∷ next ∷ rows) (next ∷ with_row row rows)) ≡ suc (length (next ∷ rows))) [
@@ -267,6 +267,27 @@ out_and_missed settled gone placed waiting key i j counted rows out missed =
     (finds_none (without_rows gone placed) waiting (settled - length gone) key i j (left_counted settled gone placed are) (left_rows settled gone placed waiting counted rows)
     (missed_at (without_rows gone placed) key i out.within out.gap) missed)
 
+-- rows in two halves: those in their places, and those that wait
+pub record AreHalves (settled : ℕ) (gone : List ℕ) (items placed waiting : Pairs) : Type 0 where
+  pub joined : placed ++ waiting ≡ items
+  pub counted : length placed ≡ settled
+  pub rows : AreRows settled gone (placed ++ waiting)
+  pub waits : is_sorted text_cmp waiting ≡ true
+  pub fewer : length (without_rows gone placed) ≤ settled
+
+pub halves_of : (settled : ℕ) (gone : List ℕ) (items placed waiting : Pairs) → AreRows settled gone items → placed ≡ take settled items → waiting ≡ drop settled items
+    → AreHalves settled gone items placed waiting
+halves_of settled gone items placed waiting rows front back =
+    let joined : placed ++ waiting ≡ items = ap₂ (λ (xs ys : Pairs). xs ++ ys) front back ∙ take-append-drop settled items in
+    let counted : length placed ≡ settled = ap length front ∙ length-take-le settled items rows.within in
+    record {
+      joined = joined;
+      counted = counted;
+      rows = subst (AreRows settled gone) (sym joined) rows;
+      waits = ap (is_sorted text_cmp) back ∙ rows.waiting;
+      fewer = let a = length-without gone placed 0 settled (omega arith) rows.rising in omega arith;
+    }
+
 -- ---- rows as a whole
 
 pub pairs_counted : (settled : ℕ) (gone : List ℕ) (items : Pairs) → AreRows settled gone items → length (settled_pairs settled gone items) + length gone ≡ length items
@@ -278,10 +299,6 @@ pairs_counted settled gone items rows =
     let c = length-drop settled items in
     let d = rows.within in
     omega arith
-
--- so many are gone at most as are in their places
-pub gone_counted : (settled : ℕ) (gone : List ℕ) (items : Pairs) → AreRows settled gone items → length gone ≤ settled
-gone_counted settled gone items rows = let a = rising-counted 0 gone settled (omega arith) rows.rising in omega arith
 
 closed_are : (settled : ℕ) (gone : List ℕ) (items : Pairs) → AreRows settled gone items → without_rows gone items ≡ without_rows gone (take settled items) ++ drop settled items
 closed_are settled gone items rows =
@@ -307,14 +324,14 @@ closed_pairs settled gone items rows =
 
 -- all are in their places
 pub all_settled : (items : Pairs) → settled_pairs (length items) [] items ≡ items
-all_settled items = ap₂ merged (take_all items) (drop_all (length items) items (omega arith))
+all_settled items = ap₂ merged (take_all (length items) items (omega arith)) (drop_all (length items) items (omega arith))
 
 pub all_settled_rows : (items : Pairs) → is_sorted text_cmp items ≡ true → AreRows (length items) [] items
 all_settled_rows items sorted =
     record {
       within = omega arith;
       rising = tt;
-      placed = ap (is_sorted text_cmp) (take_all items) ∙ sorted;
+      placed = ap (is_sorted text_cmp) (take_all (length items) items (omega arith)) ∙ sorted;
       waiting = ap (is_sorted text_cmp) (drop_all (length items) items (omega arith));
       sorted = ap (is_sorted text_cmp) (all_settled items) ∙ sorted;
     }
@@ -322,3 +339,17 @@ all_settled_rows items sorted =
 pub none_waits : (settled : ℕ) (gone : List ℕ) (items : Pairs) → settled ≤ length items → length items - settled + length gone ≡ 0 → settled_pairs settled gone items ≡ items
 none_waits settled [] items within none = ap (λ n. settled_pairs n [] items) (let all : settled ≡ length items = omega arith in all) ∙ all_settled items
 none_waits settled (row ∷ gone) items within none = absurd (omega arith)
+
+-- rows that are these pairs, all in their places
+pub pairs_as : (n : ℕ) (gone : List ℕ) (items pairs : Pairs) → n ≡ length pairs → gone ≡ [] → items ≡ pairs → settled_pairs n gone items ≡ pairs
+pairs_as n gone items pairs counted none is =
+    ap₂ (λ k (es : Pairs). settled_pairs k gone es) counted is ∙ ap (λ (rows : List ℕ). settled_pairs (length pairs) rows pairs) none ∙ all_settled pairs
+
+pub rows_as : (n : ℕ) (gone : List ℕ) (items pairs : Pairs) → n ≡ length pairs → gone ≡ [] → items ≡ pairs → is_sorted text_cmp pairs ≡ true → AreRows n gone items
+rows_as n gone items pairs counted none is sorted =
+    subst (λ k. AreRows k gone items) (sym counted)
+    (subst (λ (rows : List ℕ). AreRows (length pairs) rows items) (sym none) (subst (AreRows (length pairs) []) (sym is) (all_settled_rows pairs sorted)))
+
+pub none_gone : (n : ℕ) (gone : List ℕ) → n + length gone ≡ 0 → gone ≡ []
+none_gone n [] none = refl
+none_gone n (row ∷ gone) none = absurd (omega arith)

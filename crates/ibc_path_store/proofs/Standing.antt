@@ -66,7 +66,7 @@ got_front [] y d ys n counted = ap (λ k. get_or (y ∷ ys) k d) (sym counted)
 got_front (x ∷ xs) y d ys n counted = ap (λ k. get_or (x ∷ (xs ++ y ∷ ys)) k d) (sym counted) ∙ got_front xs y d ys (length xs) refl
 
 pub remove_front : (xs : Pairs) (y : Text × Text) (ys : Pairs) (n : ℕ) → length xs ≡ n → remove (xs ++ y ∷ ys) n ≡ xs ++ ys
-remove_front xs y ys n counted = ap₂ (λ (as bs : Pairs). as ++ bs) (take_at xs (y ∷ ys) n counted) (drop_past xs y ys n counted)
+remove_front xs y ys n counted = ap₂ (λ (es fs : Pairs). es ++ fs) (take_at xs (y ∷ ys) n counted) (drop_past xs y ys n counted)
 
 -- Where none is gone: the pair of a key stands in a row, and at a place among all pairs. Without it so many others are in their places.
 pub record Stands (settled : ℕ) (items : Pairs) (key : Text) (row index others : ℕ) : Type 0 where

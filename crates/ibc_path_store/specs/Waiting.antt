@@ -113,3 +113,9 @@ pub record FitsAt (settled : ℕ) (gone : List ℕ) (items : Pairs) (key : Text)
 -- of the first pairs so many in their places, none of them gone, with as many that wait, and behind them the rest
 abbrev pub turned_pairs : Pairs → ℕ → ℕ → Pairs
 turned_pairs items settled waiting = settled_pairs settled [] (take (settled + waiting) items) ++ drop (settled + waiting) items
+
+-- between two places the first so many pairs and the others change places
+abbrev pub rotated_between : ℕ → ℕ → ℕ → Pairs → Pairs
+rotated_between start end count items =
+    let between = take (end - start) (drop start items) in
+    take start items ++ ((drop count between ++ take count between) ++ drop (end - start) (drop start items))

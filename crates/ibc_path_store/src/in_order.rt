@@ -89,7 +89,7 @@ impl<'a> Iterator for InOrder<'a> {
 
     ghost remaining = { item_count (λ rest. rest) };
 
-    #[tactic(auto, using(crate::proofs::Merging::waiting_comes, crate::proofs::Merging::placed_comes, crate::proofs::Merging::none_comes, crate::proofs::Merging::some_waits))]
+    #[tactic(auto, using(crate::proofs::Merging::some_waits))]
     fn next(&mut self) -> Option<&'a SharedEntry> {
         let placed = &self.placed[self.row..];
         if waits_first(placed, self.waiting) {
@@ -97,9 +97,13 @@ impl<'a> Iterator for InOrder<'a> {
             self.waiting = others;
             return Some(first);
         }
-        let first = placed.first()?;
-        (self.row, self.gone) = skip(self.gone, self.row + 1, self.placed.len());
-        Some(first)
+        match placed.first() {
+            Some(first) => {
+                (self.row, self.gone) = skip(self.gone, self.row + 1, self.placed.len());
+                Some(first)
+            }
+            None => None,
+        }
     }
 }
 

@@ -6,7 +6,7 @@ ghost use Rattle.std.specs.FinMap.{is_sorted};
 ghost use Rattle.ibc_ids.specs.Texts.{text_cmp};
 ghost use Rattle.ibc_ids.specs.Maps.{with, without, IsKeyAt, IsGapFor};
 ghost use Rattle.ibc_path_store.specs.GapChanges.{IsReplaced};
-ghost use Rattle.ibc_path_store.specs.Waiting.{merged, settled_pairs, turned_pairs, without_rows, with_row, AreRisingRows, AreRows, AreFew, StandsInRow, StandsAt, FitsAt, pairs_of, waiting_of};
+ghost use Rattle.ibc_path_store.specs.Waiting.{merged, settled_pairs, turned_pairs, without_rows, with_row, AreRisingRows, AreRows, AreFew, StandsInRow, StandsAt, FitsAt, pairs_of, waiting_of, rotated_between};
 
 use crate::in_order::InOrder;
 use ibc_forest::SharedEntry;
@@ -178,6 +178,7 @@ impl Rows {
     }
 
     /// Whether more wait or are gone than twice the root of the number of all, rounded up.
+    #[tactic(auto, using(crate::proofs::Placing::pairs_counted, crate::proofs::Leaving::gone_counted))]
     pub fn are_many(&self) -> bool
         ensures { result ≡ false → AreFew (waiting_of self.now) (length (pairs_of self.now)) }
     {
@@ -295,8 +296,17 @@ fn move_behind(entries: &mut [SharedEntry], gone: &[usize])
     for number in 0..gone.len() {
         let start = gone[number] - number;
         let end = row_or(gone, number + 1, entries.len());
-        entries[start..end].rotate_left(number + 1);
+        rotate(entries, start, end, number + 1);
     }
+}
+
+// Between two places the first so many pairs and the others change places.
+fn rotate(entries: &mut [SharedEntry], start: usize, end: usize, count: usize)
+    requires within { start + count ≤ end }
+    requires inside { end ≤ length entries.old }
+    ensures { entries.new ≡ rotated_between start end count entries.old }
+{
+    entries[start..end].rotate_left(count);
 }
 
 // The row of a number, or an end where there are no more.
