@@ -4,7 +4,6 @@ use Rattle.std.proofs.Math.Seq.{take-suc, drop-cons}
 use Rattle.ibc_ids.specs.Texts.{Text}
 use Rattle.std.proofs.lemmas.List.{append_assoc, take_at, drop_at, length-take-le, drop-drop, get_or_default}
 use Rattle.ibc_merkle.specs.Tree.{Pairs}
-
 use Rattle.ibc_path_store.specs.Waiting.{without_rows, AreRisingRows, rotated_between}
 use Rattle.ibc_path_store.proofs.Standing.{remove_front}
 use Rattle.ibc_path_store.proofs.Leaving.{rising-parted, without-front, without-both}

@@ -1,5 +1,5 @@
 -- The pairs in their places that are still to come.
-use Rattle.std.proofs.Common.{◌≡◌, ℕ, zero, suc, ◌+◌, ◌-◌, ◌<◌, ◌≤◌, Bool, false, Some, None, List, [], ◌∷◌, ◌++◌, length, get_or, take, drop, refl, sym, ap, ap₂, ◌∙◌, subst, arith, inl, inr, length-drop}
+use Rattle.std.proofs.Common.{◌≡◌, ℕ, zero, suc, ◌+◌, ◌-◌, ◌<◌, ◌≤◌, Some, None, List, [], ◌∷◌, ◌++◌, length, get_or, take, drop, refl, sym, ap, ◌∙◌, subst, arith, inl, inr, length-drop}
 use Rattle.std.proofs.Math.Seq.{drop-cons}
 use Rattle.std.proofs.lemmas.Bool.{cases_lt}
 use Rattle.std.proofs.lemmas.List.{drop_at, drop_all, take_all, length-take-le, get_or_default, get_or-drop}
@@ -8,8 +8,7 @@ use Rattle.std.specs.Iterator.{MakesProgress, item_count}
 use Rattle.ibc_ids.specs.Texts.{Text}
 use Rattle.ibc_merkle.specs.Tree.{Pairs}
 use Rattle.ibc_merkle.proofs.SearchedPairs.{parts_at}
-use Rattle.ibc_path_store.specs.Waiting.{merged, waits_first, without_rows, AreRisingRows}
-use Rattle.ibc_path_store.proofs.Merging.{placed_comes, none_comes}
+use Rattle.ibc_path_store.specs.Waiting.{waits_first, without_rows, AreRisingRows}
 use Rattle.ibc_path_store.proofs.Standing.{drop_past}
 use Rattle.ibc_path_store.proofs.Leaving.{left_behind, left_from, length-without}
 

@@ -14,7 +14,7 @@ use Rattle.ibc_merkle.proofs.Sorted.{AllBelow, AllAbove, AreRising, rising_from_
 use Rattle.ibc_merkle.proofs.Edits.{sorted_from_rising}
 use Rattle.ibc_merkle.proofs.SearchedPairs.{IsGap, parts_at}
 use Rattle.ibc_path_store.specs.Waiting.{without_rows, with_row, AreRisingRows, StandsInRow}
-use Rattle.ibc_path_store.proofs.Standing.{Found, Missed, found_at, missed_at, set_front, got_front, remove_front}
+use Rattle.ibc_path_store.proofs.Standing.{Found, Missed, set_front, got_front, remove_front}
 
 -- ---- rising rows
 
@@ -261,8 +261,7 @@ above_at key (e ∷ es) (suc k) d h l = above_at key es k d h.1 (omega arith)
 
 gap_at : (key : Text) (low high : Pairs) (i : ℕ) → length low ≡ i → AllBelow key low → AllAbove key high → IsGap (low ++ high) key i
 gap_at key low high i counted below above =
-    let all = length-append low high in
-    (
+    let all = length-append low high in (
       λ k d from under. subst (λ (e : Text × Text). text_cmp e.0 key ≡ Less) (sym (get_or_append_left low high d k (omega arith))) (below_at key low k d below (omega arith)),
       λ k d from under. subst (λ (e : Text × Text). text_cmp e.0 key ≡ Greater) (sym (get_or-append_right low high i k d counted from)) (above_at key high (k - i) d above (omega arith)),
     )

@@ -126,8 +126,6 @@ waits_left settled gone placed waiting key j index are stands =
       set_replaced = λ value. subst (λ (pairs : Pairs). IsReplaced pairs (with text_cmp key value pairs) index 1 1) (sym all) (stands.set_replaced value);
       within = subst (λ (pairs : Pairs). index < length pairs) (sym all) stands.within;
       removed = subst (λ (pairs : Pairs). remove pairs index ≡ without text_cmp key pairs) (sym all) stands.cut;
-      removed_sorted =
-          subst (λ (pairs : Pairs). is_sorted text_cmp (without text_cmp key pairs) ≡ true) (sym all) (ap (is_sorted text_cmp) (sym stands.removed) ∙ stands.removed_rows.sorted);
       removed_replaced = subst (λ (pairs : Pairs). IsReplaced pairs (without text_cmp key pairs) index 1 0) (sym all) stands.removed_replaced;
       taken = λ _. removed_is ∙ stands.removed ∙ ap (without text_cmp key) (sym all);
       taken_rows =
@@ -184,8 +182,6 @@ stays_left settled gone placed waiting key row i index are stays stands =
       set_replaced = λ value. subst (λ (pairs : Pairs). IsReplaced pairs (with text_cmp key value pairs) index 1 1) (sym all) (stands.set_replaced value);
       within = subst (λ (pairs : Pairs). index < length pairs) (sym all) stands.within;
       removed = subst (λ (pairs : Pairs). remove pairs index ≡ without text_cmp key pairs) (sym all) stands.cut;
-      removed_sorted =
-          subst (λ (pairs : Pairs). is_sorted text_cmp (without text_cmp key pairs) ≡ true) (sym all) (ap (is_sorted text_cmp) (sym stands.removed) ∙ stands.removed_rows.sorted);
       removed_replaced = subst (λ (pairs : Pairs). IsReplaced pairs (without text_cmp key pairs) index 1 0) (sym all) stands.removed_replaced;
       taken = λ l. absurd (omega arith);
       taken_rows = λ l. absurd (omega arith);

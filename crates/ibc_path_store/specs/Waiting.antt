@@ -44,7 +44,7 @@ with_row row (next ∷ rows) = cond (nat_lt row next) (row ∷ next ∷ rows) (n
 abbrev pub settled_pairs : ℕ → List ℕ → Pairs → Pairs
 settled_pairs settled gone items = merged (without_rows gone (take settled items)) (drop settled items)
 
--- so few wait of all: their square is below four times one more than the number of all, so they are at most twice its root, rounded up
+-- so few wait or are gone: their square is below four times one more than the number of all that are left, so they are at most twice its root, rounded up
 abbrev pub AreFew : ℕ → ℕ → Type 0
 AreFew waiting pairs = waiting * waiting < 4 * (pairs + 1)
 
@@ -92,7 +92,6 @@ pub record StandsAt (settled : ℕ) (gone : List ℕ) (items : Pairs) (key : Tex
   pub set_replaced : (value : Text) → IsReplaced (settled_pairs settled gone items) (with text_cmp key value (settled_pairs settled gone items)) index 1 1
   pub within : index < length (settled_pairs settled gone items)
   pub removed : remove (settled_pairs settled gone items) index ≡ without text_cmp key (settled_pairs settled gone items)
-  pub removed_sorted : IsTrue (is_sorted text_cmp (without text_cmp key (settled_pairs settled gone items)))
   pub removed_replaced : IsReplaced (settled_pairs settled gone items) (without text_cmp key (settled_pairs settled gone items)) index 1 0
   pub taken : settled ≤ row → settled_pairs settled gone (remove items row) ≡ without text_cmp key (settled_pairs settled gone items)
   pub taken_rows : settled ≤ row → AreRows settled gone (remove items row)

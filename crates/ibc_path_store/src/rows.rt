@@ -121,7 +121,7 @@ impl Rows {
         }
     }
 
-    // Merges, and puts a pair in its place among all.
+    // Merges, and puts a pair in its place among all. It is refused only where none was gone, and there is no memory.
     fn put_in_place(&mut self, index: usize, entry: SharedEntry) -> Result<(), AllocError>
         requires within { index ≤ length (pairs_of self.old) }
         requires sorted { IsTrue (is_sorted text_cmp (insert (pairs_of self.old) index entry)) }
@@ -264,7 +264,7 @@ fn search_left(placed: &[SharedEntry], gone: &[usize], path: &[u8]) -> Result<Po
     }
 }
 
-// Lets the pair of a row be gone. Answers whether there is memory for that.
+// Notes a row as one that is gone, which none of these is. Answers whether there is memory for that.
 fn leave(gone: &mut Vec<usize>, row: usize) -> bool
     ensures left { result ≡ true → (end : ℕ) → AreRisingRows 0 gone.old.items end → gone.new.items ≡ with_row row gone.old.items }
     ensures none { result ≡ false → gone.new.items ≡ gone.old.items }

@@ -1,5 +1,5 @@
 -- What is gone is taken out, what waits is put in its place, and then all are in their places.
-use Rattle.std.proofs.Common.{◌≡◌, ◌-◌, ◌+◌, ℕ, List, [], ◌++◌, length, take, drop, true, sym, ap, ap₂, ◌∙◌, subst, arith}
+use Rattle.std.proofs.Common.{◌≡◌, ◌-◌, ◌+◌, ℕ, List, [], ◌++◌, length, take, drop, sym, ap, ap₂, ◌∙◌, subst, arith}
 use Rattle.ibc_merkle.specs.Tree.{Pairs}
 use Rattle.ibc_path_store.specs.Waiting.{settled_pairs, pairs_of, without_rows, AreRisingRows, AreRows}
 use Rattle.ibc_path_store.proofs.Touching.{written_over}
