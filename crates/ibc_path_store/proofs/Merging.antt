@@ -1,15 +1,15 @@
 -- Two rows of pairs, merged.
-use Rattle.std.proofs.Common.{◌≡◌, ℕ, ◌+◌, ◌≤◌, Bool, true, false, not, [], ◌∷◌, ◌++◌, length, take, drop, refl, sym, ap, ap₂, ◌∙◌, subst, arith, inl, inr, is_lt, Less, Equal, Greater, length-append, length-drop}
+use Rattle.std.proofs.Common.{◌≡◌, ◌+◌, Bool, true, false, not, [], ◌∷◌, ◌++◌, length, refl, sym, ap, ap₂, ◌∙◌, subst, arith, inl, inr, is_lt, Less, Equal, Greater, length-append}
 use Rattle.std.specs.Prelude.{⊤}
 use Rattle.std.proofs.lemmas.Bool.{cases_Bool, false≢true}
-use Rattle.std.proofs.lemmas.List.{append_assoc, length-take-le}
+use Rattle.std.proofs.lemmas.List.{append_assoc}
 use Rattle.ibc_ids.specs.Texts.{Text, text_cmp}
 use Rattle.ibc_ids.proofs.Texts.{text_cmp_total, text_tied, text_ties, lt_is_less}
 use Rattle.ibc_merkle.specs.Tree.{Pairs}
 use Rattle.ibc_merkle.specs.Proofs.{is_below}
 use Rattle.ibc_merkle.proofs.Sorted.{AllBelow, AllAbove, below_further, below-append, greater_from, less_from}
 use Rattle.ibc_forest.specs.Leaves.{from_key}
-use Rattle.ibc_path_store.specs.Waiting.{up_to_key, merged, settled_pairs, waits_first}
+use Rattle.ibc_path_store.specs.Waiting.{up_to_key, merged, waits_first}
 
 -- ---- pairs from a key on
 
@@ -210,11 +210,3 @@ none_comes pairs waiting is first =
 
 pub some_waits : (pairs waiting : Pairs) → waiting ≡ [] → waits_first pairs waiting ≡ false
 some_waits pairs waiting is = ap (waits_first pairs) is
-
--- none is lost
-pub rows_counted : (settled : ℕ) (items : Pairs) → settled ≤ length items → length (settled_pairs settled items) ≡ length items
-rows_counted settled items within =
-    let a = length-merged (take settled items) (drop settled items) in
-    let b = length-take-le settled items within in
-    let c = length-drop settled items in
-    omega arith

@@ -209,9 +209,9 @@ touched_wide gaps number before gone come l behind inside =
     ∙ ap (λ (gs : List Gap). take number gaps ++ gs) (cond-false (nat_lt before gap.kept) _ _ (le-ltb before gap.kept behind) ∙ cond-true (nat_le (before - gap.kept + gone) gap.come) _ _ (le-leb (before - gap.kept + gone) gap.come inside)))
 
 -- all of a list that was written over
-pub written_over : (gaps new : List Gap) (count : ℕ) → count ≡ length gaps → length new ≡ length gaps → take count (new ++ drop (length new) gaps) ≡ new
-written_over gaps new count counted same =
-    ap (λ (gs : List Gap). take count (new ++ gs)) (drop_all (length new) gaps (omega arith)) ∙ ap (take count) (append-nil new) ∙ take_all count new (omega arith)
+pub written_over : {A : Type 0} (old new : List A) (count : ℕ) → count ≡ length old → length new ≡ length old → take count (new ++ drop (length new) old) ≡ new
+written_over {A} old new count counted same =
+    ap (λ (es : List A). take count (new ++ es)) (drop_all (length new) old (omega arith)) ∙ ap (take count) (append-nil new) ∙ take_all count new (omega arith)
 
 pub shrunk_at : (gaps : List Gap) (number fewer : ℕ) → number < length gaps
     → set gaps number (record (get_or gaps number no_gap) { kept = (get_or gaps number no_gap).kept - fewer }) ≡ take number gaps ++ with_shorter_front (drop number gaps) fewer

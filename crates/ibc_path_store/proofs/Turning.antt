@@ -33,12 +33,12 @@ last_waits items n w e some there is =
     parts_at row (w - 1) e (omega arith) here ∙ ap (λ (es : Pairs). take (w - 1) row ++ e ∷ es) (drop_all (suc (w - 1)) row (omega arith))
 
 pub record Turned (items new : Pairs) (n w p : ℕ) : Type 0 where
-  pub rows : AreRows p (take (p + (w - 1)) new)
+  pub rows : AreRows p [] (take (p + (w - 1)) new)
   pub same : turned_pairs new p (w - 1) ≡ turned_pairs items n w
 
 -- in parts
 turned_parts : (low high early rest : Pairs) (e : Text × Text) (n w p : ℕ) → 0 < w → length low ≡ p → length (low ++ high) ≡ n → length (early ++ e ∷ []) ≡ w → AllBelow e.0 low → AtLeast e.0 high
-    → AreRows n ((low ++ high) ++ (early ++ e ∷ []))
+    → AreRows n [] ((low ++ high) ++ (early ++ e ∷ []))
     → Turned (((low ++ high) ++ (early ++ e ∷ [])) ++ rest) (low ++ (((early ++ e ∷ []) ++ high) ++ rest)) n w p
 turned_parts low high early rest e n w p some counted pairs_counted waits_counted below from rows =
     let first : Pairs = (low ++ high) ++ (early ++ e ∷ []) in
@@ -57,7 +57,7 @@ turned_parts low high early rest e n w p some counted pairs_counted waits_counte
     let placed : is_sorted text_cmp (low ++ high) ≡ true = sym (ap (is_sorted text_cmp) (take_at (low ++ high) (early ++ e ∷ []) n pairs_counted)) ∙ rows.placed in
     let waits : is_sorted text_cmp (early ++ e ∷ []) ≡ true = sym (ap (is_sorted text_cmp) (drop_at (low ++ high) (early ++ e ∷ []) n pairs_counted)) ∙ rows.waiting in
     let before : AllBelow e.0 early = before_is_below early e [] (rising_from_sorted (early ++ e ∷ []) waits) in
-    let are : settled_pairs n first ≡ merged low early ++ e ∷ high =
+    let are : settled_pairs n [] first ≡ merged low early ++ e ∷ high =
     pairs_cut (low ++ high) (early ++ e ∷ []) n pairs_counted
     ∙ cut_merged e.0 low high early (e ∷ []) below from before (from_itself e.0 e.1 [])
     ∙ ap (λ (es : Pairs). merged low early ++ es) (first_waiting e high [] from)
@@ -65,17 +65,17 @@ turned_parts low high early rest e n w p some counted pairs_counted waits_counte
     let sorted : is_sorted text_cmp (merged low early ++ e ∷ high) ≡ true = sym (ap (is_sorted text_cmp) are) ∙ rows.sorted in
     record {
       rows =
-          subst (AreRows p) (sym taken)
+          subst (AreRows p []) (sym taken)
           (rows_cut low early (merged low early) p counted (sorted_left low high placed) (sorted_left early (e ∷ []) waits) refl (sorted_left (merged low early) (e ∷ high) sorted));
       same =
-          ap₂ (λ (xs ys : Pairs). settled_pairs p xs ++ ys) taken left
+          ap₂ (λ (xs ys : Pairs). settled_pairs p [] xs ++ ys) taken left
           ∙ ap (λ (es : Pairs). es ++ behind) (pairs_cut low early p counted)
           ∙ sym (append_assoc (merged low early) (e ∷ high) rest)
           ∙ sym (ap (λ (es : Pairs). es ++ rest) are)
-          ∙ sym (ap₂ (λ (xs ys : Pairs). settled_pairs n xs ++ ys) (take_at first rest (n + w) all) (drop_at first rest (n + w) all));
+          ∙ sym (ap₂ (λ (xs ys : Pairs). settled_pairs n [] xs ++ ys) (take_at first rest (n + w) all) (drop_at first rest (n + w) all));
     }
 
-pub turned : (items rotated : Pairs) (n w p : ℕ) (e : Text × Text) → 0 < w → n + w ≤ length items → e ≡ get_or items (n + w - 1) e → Cut (take n items) e.0 p → AreRows n (take (n + w) items)
+pub turned : (items rotated : Pairs) (n w p : ℕ) (e : Text × Text) → 0 < w → n + w ≤ length items → e ≡ get_or items (n + w - 1) e → Cut (take n items) e.0 p → AreRows n [] (take (n + w) items)
     → rotated ≡ drop (n - p) (take (n + w - p) (drop p items)) ++ take (n - p) (take (n + w - p) (drop p items))
     → Turned items (take p items ++ (rotated ++ drop (n + w - p) (drop p items))) n w p
 turned items rotated n w p e some there is cut rows turns =
@@ -112,4 +112,4 @@ turned items rotated n w p e some there is cut rows turns =
     in
     subst (λ (xs : Pairs). Turned xs (take p items ++ (rotated ++ drop (n + w - p) (drop p items))) n w p) (sym are)
     (subst (λ (xs : Pairs). Turned (((low ++ high) ++ waits) ++ rest) xs n w p) (sym new_are)
-    (turned_parts low high early rest e n w p some cut.counted pairs_counted waits_counted cut.below cut.from (subst (AreRows n) first_are rows)))
+    (turned_parts low high early rest e n w p some cut.counted pairs_counted waits_counted cut.below cut.from (subst (AreRows n []) first_are rows)))

@@ -3,8 +3,8 @@ use Rattle.std.specs.Prelude.{ℕ, ◌+◌, ◌-◌, ◌^◌, min, List, [], ◌
 use Rattle.ibc_merkle.specs.Tree.{Pairs}
 use Rattle.ibc_forest.specs.declared.gap.Gap.{Gap}
 
--- the pairs of a map in the order of their keys, how many of them wait to be put in their places, how many paths more can be set without a
--- refusal, and the gaps in which the map was touched since it was settled, if they are known
+-- the pairs of a map in the order of their keys, how many wait to be put in their places or are gone and not yet taken out of theirs, how many
+-- paths more can be set without a refusal, and the gaps in which the map was touched since it was settled, if they are known
 pub record PathMapModel : Type 0 where
   pub pairs : Pairs
   pub waiting : ℕ

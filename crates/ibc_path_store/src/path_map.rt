@@ -1,14 +1,13 @@
 //! A map from paths to values, in the order of the paths.
 
-ghost use Rattle.std.specs.Prelude.{◌≡◌, ◌+◌, ◌≤◌, ◌<◌, [], false, length, Some, IsTrue, IsOk, OnOk, OnErr, option_map, string_bytes};
+ghost use Rattle.std.specs.Prelude.{◌≡◌, ◌+◌, ◌≤◌, ◌<◌, [], length, Some, IsTrue, IsOk, OnOk, OnErr, option_map, string_bytes};
 ghost use Rattle.std.specs.FinMap.{is_sorted};
 ghost use Rattle.ibc_ids.specs.Texts.{text_cmp};
 ghost use Rattle.ibc_ids.specs.Maps.{at, with, without};
 ghost use Rattle.ibc_path_store.specs.GapChanges.{Shares, KeepsShared};
 ghost use Rattle.ibc_path_store.specs.Waiting.{AreFew};
 
-use crate::in_order::InOrder;
-use crate::rows::{Position, find, merge, without_row};
+use crate::rows::{Position, Rows};
 use crate::spare::Spare;
 use crate::touched::Touched;
 use ibc_forest::{Gap, SharedEntry};
@@ -19,30 +18,28 @@ use std::fmt;
 use std::marker::Model;
 
 /// A map from paths to values, which shares its pairs with the trees over them, and in which room can be made beforehand.
-/// A new path waits behind the others, so that a set moves only the pairs that wait, until they are merged. They are never many.
+/// A new path waits behind the others, so that a set moves only the pairs that wait, until they are merged. A pair in its place
+/// that is removed stays there until then, as one that is gone. Neither are ever many.
 #[derive(Drop)]
 pub struct PathMap {
-    entries: Vec<SharedEntry>,
-    settled: usize,
+    rows: Rows,
     spare: Spare,
     touched: Touched,
 }
 
 impl Model for PathMap {
-    ghost use Rattle.std.specs.Prelude.{◌-◌, min, vec_len, vec_capacity};
+    ghost use Rattle.std.specs.Prelude.{min};
     ghost use Rattle.ibc_path_store.specs.StoreModel.{PathMapModel};
-    ghost use Rattle.ibc_path_store.specs.Waiting.{settled_pairs, AreRows};
+    ghost use Rattle.ibc_path_store.specs.Waiting.{pairs_of, waiting_of};
 
     ghost Value = { PathMapModel };
 
     ghost view = { λ map. record {
-      pairs = settled_pairs map.settled map.entries.items;
-      waiting = vec_len map.entries - map.settled;
-      room = min (vec_capacity map.entries - vec_len map.entries) map.spare;
+      pairs = pairs_of map.rows;
+      waiting = waiting_of map.rows;
+      room = min map.rows.free map.spare;
       touched = map.touched;
     } };
-
-    ghost invariant = { λ map. AreRows map.settled map.entries.items };
 }
 
 impl PathMap {
@@ -53,8 +50,7 @@ impl PathMap {
         ensures touched { result.touched ≡ Some [] }
     {
         PathMap {
-            entries: Vec::new(alloc),
-            settled: 0,
+            rows: Rows::new(alloc),
             spare: Spare::none(alloc),
             touched: Touched::none(alloc),
         }
@@ -64,7 +60,7 @@ impl PathMap {
     pub fn lemma_pairs_sorted(&self)
         ensures { IsTrue (is_sorted text_cmp self.now.pairs) }
     {
-        let _entries = &self.entries;
+        self.rows.lemma_sorted();
     }
 
     /// Makes room for this many paths more.
@@ -73,7 +69,7 @@ impl PathMap {
         ensures room { self.old.room ≤ self.new.room }
         ensures ok { OnOk result (paths ≤ self.new.room) }
     {
-        self.entries.reserve(paths)?;
+        self.rows.reserve(paths)?;
         self.spare.fill(paths)
     }
 
@@ -100,31 +96,29 @@ impl PathMap {
         ensures shares { KeepsShared self.old self.new }
     {
         let key = Bytes::from_vec(path.into_bytes());
-        match find(self.entries.as_slice(), self.settled, key.as_slice()) {
+        match self.rows.find(key.as_slice()) {
             Ok(Position { row, index }) => {
                 let entry = self.spare.share(KeyValue::new(key, value))?;
-                self.entries[row] = entry;
+                self.rows.replace(row, entry);
                 self.touched.touch(index, 1, 1);
                 Ok(())
             }
-            Err(Position { row, index }) => {
+            Err(place) => {
                 let entry = self.spare.share(KeyValue::new(key, value))?;
-                self.entries.insert(row, entry)?;
-                self.touched.touch(index, 0, 1);
+                self.rows.add(place, entry)?;
+                self.touched.touch(place.index, 0, 1);
                 Ok(())
             }
         }
     }
 
-    // Puts the pairs that wait in their places where they are many, so that neither an insert nor a merge moves more than
-    // some few times the root of their number for each.
-    #[tactic(auto, using(crate::proofs::Merging::rows_counted))]
+    // Merges where many pairs wait or are gone, so that neither an insert nor a merge moves more than some few times the root of
+    // their number for each.
     fn merge_many(&mut self)
         ensures same { self.new ≡ record self.old { waiting = self.new.waiting } }
         ensures few { AreFew self.new.waiting (length self.new.pairs) }
     {
-        let pairs = self.entries.len();
-        if are_many(pairs - self.settled, pairs) {
+        if self.rows.are_many() {
             self.merge();
         }
     }
@@ -133,8 +127,8 @@ impl PathMap {
     pub fn get(&self, path: &str) -> Option<&[u8]>
         ensures { option_map (λ value. value.now) result ≡ at text_cmp path.now self.now.pairs }
     {
-        match find(self.entries.as_slice(), self.settled, path.as_bytes()) {
-            Ok(place) => Some(self.entries[place.row].value()),
+        match self.rows.find(path.as_bytes()) {
+            Ok(place) => Some(self.rows.entry(place.row).value()),
             Err(_) => None,
         }
     }
@@ -150,19 +144,13 @@ impl PathMap {
         self.merge_many();
     }
 
-    // Takes out a path and its value, if it is there. Then as many wait as before, or one fewer, of fewer pairs.
+    // Takes out a path and its value, if it is there.
     fn take_out(&mut self, path: &str)
         ensures pairs { self.new.pairs ≡ without text_cmp path.now self.old.pairs }
         ensures room { self.old.room ≤ self.new.room }
         ensures shares { KeepsShared self.old self.new }
     {
-        if let Ok(Position { row, index }) = find(
-            self.entries.as_slice(),
-            self.settled,
-            path.as_bytes(),
-        ) {
-            self.entries.remove(row);
-            self.settled = without_row(self.settled, row);
+        if let Some(index) = self.rows.take_out(path.as_bytes()) {
             self.touched.touch(index, 1, 0);
         }
     }
@@ -182,40 +170,31 @@ impl PathMap {
         self.touched.gaps()
     }
 
-    /// Puts the pairs that wait in their places.
+    /// Puts the pairs that wait in their places, and takes those that are gone out of theirs.
     pub fn merge(&mut self)
         ensures { self.new ≡ record self.old { waiting = 0 } }
     {
-        merge(self.entries.as_mut_slice(), self.settled);
-        self.settled = self.entries.len();
+        self.rows.merge();
     }
 
-    /// The pairs, of which none waits; their keys strictly rise in byte order.
+    /// The pairs, of which none waits, nor is one gone; their keys strictly rise in byte order.
     pub fn entries(&self) -> &[SharedEntry]
         requires { self.now.waiting ≡ 0 }
         ensures pairs { result.now ≡ self.now.pairs }
         ensures sorted { IsTrue (is_sorted text_cmp result.now) }
     {
-        self.entries.as_slice()
+        self.rows.lemma_sorted();
+        self.rows.entries()
     }
 }
 
 impl fmt::Debug for PathMap {
-    // The pairs in the order of their keys, also while some wait.
+    // The pairs in the order of their keys, also while some wait or are gone.
     fn fmt<W: fmt::Write>(&self, f: &mut fmt::Formatter<W>) -> fmt::Result {
-        let (placed, waiting) = self.entries.as_slice().split_at(self.settled);
         f.debug_struct("PathMap")
-            .field("entries", &InOrder::new(placed, waiting))
+            .field("entries", &self.rows.in_order())
             .field("spare", &self.spare)
             .field("touched", &self.touched)
             .finish()
     }
-}
-
-// Whether so many pairs that wait are more than twice the root of the number of all.
-fn are_many(waiting: usize, pairs: usize) -> bool
-    ensures { result ≡ false → AreFew waiting pairs }
-{
-    let square = (waiting as u128) * (waiting as u128);
-    square / 4 > pairs as u128
 }
