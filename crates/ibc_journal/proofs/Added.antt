@@ -20,7 +20,7 @@ use Rattle.sqlite.specs.State.{State, HasCleanDisk, mode_of, Executes, CommitsBy
 use Rattle.sqlite.proofs.Callers.{statement_of, runs_as, one_step}
 use Rattle.ibc_journal.specs.Tables.{entries, journal_schema, JournalItem, row_at, rows_from, IsJournal}
 use Rattle.ibc_journal.specs.Crashes.{GoesOn, PutsBehind, LeavesOutside}
-use Rattle.ibc_journal.proofs.Statements.{insert_text, insert_terms, insert_is, insert_plain}
+use Rattle.ibc_journal.proofs.Statements.{insert_text, insert_terms, insert_known}
 use Rattle.ibc_journal.proofs.Parts.{cast_int, cast_null, went, same_value, below}
 use Rattle.ibc_journal.proofs.Transactions.{only_outside}
 
@@ -75,19 +75,19 @@ module _ (old new : State) (genesis : List ℕ) (items : List JournalItem) (it :
   pub adds : (r : Result ℕ Error) → Executes insert_text (params_of (length items) it) old new r → OnOk r (IsJournal new.now genesis (items ++ it ∷ []))
   adds (Err e) h = tt
   adds (Ok count) h =
-      let w = runs_as insert_text (params_of (length items) it) old new journal_schema has.schema (Insert 1 (Values insert_terms 8)) insert_is insert_plain count h in
+      let w = runs_as insert_text (params_of (length items) it) old new journal_schema has.schema (Insert 1 (Values insert_terms 8)) insert_known.is insert_known.plain count h in
       does_add old genesis items it w.tally new.now has w.changed
 
   pub stays_inside : (r : Result ℕ Error) → IsTrue old.in_transaction → Executes insert_text (params_of (length items) it) old new r → OnOk r (GoesOn old new)
   stays_inside (Err e) inside h = tt
   stays_inside (Ok count) inside h =
-      let w = runs_as insert_text (params_of (length items) it) old new journal_schema has.schema (Insert 1 (Values insert_terms 8)) insert_is insert_plain count h in
+      let w = runs_as insert_text (params_of (length items) it) old new journal_schema has.schema (Insert 1 (Values insert_terms 8)) insert_known.is insert_known.plain count h in
       record { inside = w.shown.mode ∙ inside; committed = rw inside at w.shown.committed_is }
 
 -- a crash inside a transaction leaves nothing of it
 pub leaves : (old : State) (place : ℕ) (it : JournalItem) (db : Trees) → CommitsBy insert_text (params_of place it) old db → LeavesOutside old place db
 leaves old place it db h genesis items has at =
-    only_outside insert_text old journal_schema has.schema (Insert 1 (Values insert_terms 8)) insert_is insert_plain (λ e. absurd cc) (λ name e. absurd cc) (params_of place it) db h
+    only_outside insert_text old journal_schema has.schema (Insert 1 (Values insert_terms 8)) insert_known (λ e. absurd cc) (λ name e. absurd cc) (params_of place it) db h
 
 pub puts_behind : (old new : State) (place : ℕ) (it : JournalItem) (r : Result ℕ Error) → (HasCleanDisk new → Executes insert_text (params_of place it) old new r) → OnOk r (PutsBehind old new place (it ∷ []))
 puts_behind old new place it (Err e) h = tt

@@ -1,5 +1,5 @@
 -- Values that a column keeps as they are, and the parts of a statement that went through.
-use Rattle.std.proofs.Common.{Less, ◌≡◌, ◌⊎◌, inl, inr, ℕ, ◌<◌, ℤ, pos, ◌<ℤ◌, Bool, true, false, cond, Ok, Err, Result, refl, sym, ◌∙◌}
+use Rattle.std.proofs.Common.{Less, Equal, Greater, ◌≡◌, ◌⊎◌, inl, inr, ℕ, ◌<◌, ℤ, pos, ◌<ℤ◌, Bool, true, false, cond, Ok, Err, Result, refl, sym, ◌∙◌}
 use Rattle.std.proofs.Math.Facts.{yes_ltb}
 use Rattle.std.specs.Int.Signed.{lt_z_yes}
 use Rattle.std.specs.Cmp.{int_cmp_is}
@@ -37,3 +37,11 @@ pub below : (a b : ℕ) → a < b → value_cmp (Int (pos a)) (Int (pos b)) ≡ 
 below a b lt =
     let less : pos a <ℤ pos b = lt_z_yes (yes_ltb lt) in
     value_cmp-Int (pos a) (pos b) ∙ sym (int_cmp_is (pos a) (pos b) Less less)
+
+pub alike : (a : ℕ) → value_cmp (Int (pos a)) (Int (pos a)) ≡ Equal
+alike a = value_cmp-Int (pos a) (pos a) ∙ sym (int_cmp_is (pos a) (pos a) Equal refl)
+
+pub above : (a b : ℕ) → b < a → value_cmp (Int (pos a)) (Int (pos b)) ≡ Greater
+above a b lt =
+    let greater : pos b <ℤ pos a = lt_z_yes (yes_ltb lt) in
+    value_cmp-Int (pos a) (pos b) ∙ sym (int_cmp_is (pos a) (pos b) Greater greater)

@@ -1,5 +1,5 @@
 -- Several entries in one transaction, and the transaction as a whole.
-use Rattle.std.proofs.Common.{◌≡◌, inl, inr, ℕ, ◌+◌, ◌<◌, ◌≤◌, List, [], ◌∷◌, ◌++◌, length, get_or, take, map, true, false, refl, sym, ap, subst, append-nil, append_assoc, length-append, ◌∙◌, arith}
+use Rattle.std.proofs.Common.{◌≡◌, inl, inr, ℕ, ◌+◌, ◌<◌, ◌≤◌, List, [], ◌∷◌, ◌++◌, length, get_or, take, true, false, refl, sym, ap, subst, append-nil, append_assoc, length-append, ◌∙◌, arith}
 use Rattle.std.proofs.lemmas.Bool.{cases_Bool, false≢true}
 use Rattle.std.proofs.lemmas.List.{take_more, take_all, map-append, length-take-le, length-map}
 use Rattle.sqlite.specs.Tree.{Trees}
@@ -116,6 +116,12 @@ pub nothing_then : (old mid new : State) → KeepsJournals old mid
     → Survives old mid (LeavesNothing old) → Survives mid new (LeavesNothing mid) → Survives old new (LeavesNothing old)
 nothing_then old mid new kept one two =
     survives_then old mid new _ _ _ (λ clean db h. h) (λ clean db h. λ genesis items has. h genesis items (kept genesis items has (omega (arith, two.clean, clean)))) one two
+
+pub nothing_on : (old mid new last : State) → KeepsJournals old mid → Survives old mid (LeavesNothing old) → Survives mid new (LeavesNothing mid)
+    → ((genesis : List ℕ) (items : List JournalItem) → IsJournal mid.now genesis items → HasCleanDisk new → IsUnchanged mid new)
+    → Survives new last (LeavesNothing new) → Survives old last (LeavesNothing old)
+nothing_on old mid new last kept one two same three =
+    nothing_then old new last (keeps_on old mid new kept two.clean same) (nothing_then old mid new kept one two) three
 
 -- what is a journal before stays that journal, call by call
 pub keeps_once : (old new : State) → ((genesis : List ℕ) (items : List JournalItem) → IsJournal old.now genesis items → HasCleanDisk new → IsUnchanged old new) → KeepsJournals old new

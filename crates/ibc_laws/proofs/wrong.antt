@@ -11,6 +11,9 @@ pub mod TestedAll
 pub mod TypedEvents
 pub mod LastStep
 pub mod OfTheMachine
+pub mod RefusedAlone
+pub mod AnotherPaid
+pub mod Common
 pub mod Forged
 pub mod Unwritten
 pub mod Reworded

@@ -1,3 +1,4 @@
 pub mod Ascii
+pub mod PassedFaults
 pub mod StepWords
 pub mod Values

@@ -1,5 +1,5 @@
 -- Which kind of step, or of message, an object is that says what it does.
-use Rattle.std.proofs.Common.{◌≡◌, ◌∙◌, ℕ, Bool, true, false, List, [], ◌∷◌, MatchResult, Option, Some, Result, Ok, Err, ap, bytes_eq, codes, eqb, is_ok, refl, sym}
+use Rattle.std.proofs.Common.{◌≡◌, ◌∙◌, ℕ, Bool, true, false, List, [], ◌∷◌, Option, Some, ap, bytes_eq, codes, eqb, refl, sym}
 use Rattle.std.specs.List.{ends_with, list_any, starts_with}
 use Rattle.std.proofs.lemmas.Bool.{false≢true}
 use Rattle.std.proofs.lemmas.Option.{same_Some}
@@ -43,101 +43,101 @@ one_text a b found first second = same_Some a b (sym first ∙ second)
 
 -- ---- messages, by their names
 
-pub as_create : (names : List Text) (given : Data) (d : ClientDraft) → IsDraft (codes "CreateClient") names given (draft.Client d)
-    → (of : ℕ) × IsDraft (codes "CreateClient") names given (draft.Client (client.Create of))
-as_create names given (client.Create of) is = (of, is)
-as_create names given d is = absurd (differ _ _ is.0 refl)
+module _ (names : List Text) (given : Data) where
+  abbrev IsNamed : Text → Draft → Type 0
+  IsNamed name d = IsDraft name names given d
 
-pub as_update : (names : List Text) (given : Data) (d : ClientDraft) → IsDraft (codes "UpdateClient") names given (draft.Client d)
-    → (id : Text) × (height : ℕ) × IsDraft (codes "UpdateClient") names given (draft.Client (client.Update id height))
-as_update names given (client.Update id height) is = (id, height, is)
-as_update names given d is = absurd (differ _ _ is.0 refl)
+  pub as_create : (d : ClientDraft) → IsNamed (codes "CreateClient") (draft.Client d) → (of : ℕ) × IsNamed (codes "CreateClient") (draft.Client (client.Create of))
+  as_create (client.Create of) is = (of, is)
+  as_create d is = absurd (differ _ _ is.0 refl)
 
-pub as_conn_init : (names : List Text) (given : Data) (d : ConnectionDraft) → IsDraft (codes "ConnOpenInit") names given (draft.Connection d)
-    → (id peer : Text) × IsDraft (codes "ConnOpenInit") names given (draft.Connection (connection.OpenInit id peer))
-as_conn_init names given (connection.OpenInit id peer) is = (id, peer, is)
-as_conn_init names given d is = absurd (differ _ _ is.0 refl)
+  pub as_update : (d : ClientDraft) → IsNamed (codes "UpdateClient") (draft.Client d)
+      → (id : Text) × (height : ℕ) × IsNamed (codes "UpdateClient") (draft.Client (client.Update id height))
+  as_update (client.Update id height) is = (id, height, is)
+  as_update d is = absurd (differ _ _ is.0 refl)
 
-pub as_conn_try : (names : List Text) (given : Data) (d : ConnectionDraft) → IsDraft (codes "ConnOpenTry") names given (draft.Connection d)
-    → (id peer link : Text) × (from : ProofSource)
-    × IsDraft (codes "ConnOpenTry") names given (draft.Connection (connection.OpenTry id peer link from))
-as_conn_try names given (connection.OpenTry id peer link from) is = (id, peer, link, from, is)
-as_conn_try names given d is = absurd (differ _ _ is.0 refl)
+  pub as_conn_init : (d : ConnectionDraft) → IsNamed (codes "ConnOpenInit") (draft.Connection d)
+      → (id peer : Text) × IsNamed (codes "ConnOpenInit") (draft.Connection (connection.OpenInit id peer))
+  as_conn_init (connection.OpenInit id peer) is = (id, peer, is)
+  as_conn_init d is = absurd (differ _ _ is.0 refl)
 
-pub as_conn_ack : (names : List Text) (given : Data) (d : ConnectionDraft) → IsDraft (codes "ConnOpenAck") names given (draft.Connection d)
-    → (id peer : Text) × (from : ProofSource) × IsDraft (codes "ConnOpenAck") names given (draft.Connection (connection.OpenAck id peer from))
-as_conn_ack names given (connection.OpenAck id peer from) is = (id, peer, from, is)
-as_conn_ack names given d is = absurd (differ _ _ is.0 refl)
+  pub as_conn_try : (d : ConnectionDraft) → IsNamed (codes "ConnOpenTry") (draft.Connection d)
+      → (id peer link : Text) × (from : ProofSource)
+      × IsNamed (codes "ConnOpenTry") (draft.Connection (connection.OpenTry id peer link from))
+  as_conn_try (connection.OpenTry id peer link from) is = (id, peer, link, from, is)
+  as_conn_try d is = absurd (differ _ _ is.0 refl)
 
-pub as_conn_confirm : (names : List Text) (given : Data) (d : ConnectionDraft) → IsDraft (codes "ConnOpenConfirm") names given (draft.Connection d)
-    → (id : Text) × (from : ProofSource) × IsDraft (codes "ConnOpenConfirm") names given (draft.Connection (connection.OpenConfirm id from))
-as_conn_confirm names given (connection.OpenConfirm id from) is = (id, from, is)
-as_conn_confirm names given d is = absurd (differ _ _ is.0 refl)
+  pub as_conn_ack : (d : ConnectionDraft) → IsNamed (codes "ConnOpenAck") (draft.Connection d)
+      → (id peer : Text) × (from : ProofSource) × IsNamed (codes "ConnOpenAck") (draft.Connection (connection.OpenAck id peer from))
+  as_conn_ack (connection.OpenAck id peer from) is = (id, peer, from, is)
+  as_conn_ack d is = absurd (differ _ _ is.0 refl)
 
-pub as_chan_init : (names : List Text) (given : Data) (d : ChannelDraft) → IsDraft (codes "ChanOpenInit") names given (draft.Channel d)
-    → (m : ChanOpenInit) × IsDraft (codes "ChanOpenInit") names given (draft.Channel (channel.OpenInit m))
-as_chan_init names given (channel.OpenInit m) is = (m, is)
-as_chan_init names given d is = absurd (differ _ _ is.0 refl)
+  pub as_conn_confirm : (d : ConnectionDraft) → IsNamed (codes "ConnOpenConfirm") (draft.Connection d)
+      → (id : Text) × (from : ProofSource) × IsNamed (codes "ConnOpenConfirm") (draft.Connection (connection.OpenConfirm id from))
+  as_conn_confirm (connection.OpenConfirm id from) is = (id, from, is)
+  as_conn_confirm d is = absurd (differ _ _ is.0 refl)
 
-pub as_chan_try : (names : List Text) (given : Data) (d : ChannelDraft) → IsDraft (codes "ChanOpenTry") names given (draft.Channel d)
-    → (m : ChannelTry) × IsDraft (codes "ChanOpenTry") names given (draft.Channel (channel.OpenTry m))
-as_chan_try names given (channel.OpenTry m) is = (m, is)
-as_chan_try names given d is = absurd (differ _ _ is.0 refl)
+  pub as_chan_init : (d : ChannelDraft) → IsNamed (codes "ChanOpenInit") (draft.Channel d)
+      → (m : ChanOpenInit) × IsNamed (codes "ChanOpenInit") (draft.Channel (channel.OpenInit m))
+  as_chan_init (channel.OpenInit m) is = (m, is)
+  as_chan_init d is = absurd (differ _ _ is.0 refl)
 
-pub as_chan_ack : (names : List Text) (given : Data) (d : ChannelDraft) → IsDraft (codes "ChanOpenAck") names given (draft.Channel d)
-    → (port id peer : Text) × (from : ProofSource) × IsDraft (codes "ChanOpenAck") names given (draft.Channel (channel.OpenAck port id peer from))
-as_chan_ack names given (channel.OpenAck port id peer from) is = (port, id, peer, from, is)
-as_chan_ack names given d is = absurd (differ _ _ is.0 refl)
+  pub as_chan_try : (d : ChannelDraft) → IsNamed (codes "ChanOpenTry") (draft.Channel d) → (m : ChannelTry) × IsNamed (codes "ChanOpenTry") (draft.Channel (channel.OpenTry m))
+  as_chan_try (channel.OpenTry m) is = (m, is)
+  as_chan_try d is = absurd (differ _ _ is.0 refl)
 
-pub as_chan_confirm : (names : List Text) (given : Data) (d : ChannelDraft) → IsDraft (codes "ChanOpenConfirm") names given (draft.Channel d)
-    → (port id : Text) × (from : ProofSource) × IsDraft (codes "ChanOpenConfirm") names given (draft.Channel (channel.OpenConfirm port id from))
-as_chan_confirm names given (channel.OpenConfirm port id from) is = (port, id, from, is)
-as_chan_confirm names given d is = absurd (differ _ _ is.0 refl)
+  pub as_chan_ack : (d : ChannelDraft) → IsNamed (codes "ChanOpenAck") (draft.Channel d)
+      → (port id peer : Text) × (from : ProofSource) × IsNamed (codes "ChanOpenAck") (draft.Channel (channel.OpenAck port id peer from))
+  as_chan_ack (channel.OpenAck port id peer from) is = (port, id, peer, from, is)
+  as_chan_ack d is = absurd (differ _ _ is.0 refl)
 
-pub as_close_init : (names : List Text) (given : Data) (d : ChannelDraft) → IsDraft (codes "ChanCloseInit") names given (draft.Channel d)
-    → (m : ChanCloseInit) × IsDraft (codes "ChanCloseInit") names given (draft.Channel (channel.CloseInit m))
-as_close_init names given (channel.CloseInit m) is = (m, is)
-as_close_init names given d is = absurd (differ _ _ is.0 refl)
+  pub as_chan_confirm : (d : ChannelDraft) → IsNamed (codes "ChanOpenConfirm") (draft.Channel d)
+      → (port id : Text) × (from : ProofSource) × IsNamed (codes "ChanOpenConfirm") (draft.Channel (channel.OpenConfirm port id from))
+  as_chan_confirm (channel.OpenConfirm port id from) is = (port, id, from, is)
+  as_chan_confirm d is = absurd (differ _ _ is.0 refl)
 
-pub as_close_confirm : (names : List Text) (given : Data) (d : ChannelDraft) → IsDraft (codes "ChanCloseConfirm") names given (draft.Channel d)
-    → (port id : Text) × (from : ProofSource) × IsDraft (codes "ChanCloseConfirm") names given (draft.Channel (channel.CloseConfirm port id from))
-as_close_confirm names given (channel.CloseConfirm port id from) is = (port, id, from, is)
-as_close_confirm names given d is = absurd (differ _ _ is.0 refl)
+  pub as_close_init : (d : ChannelDraft) → IsNamed (codes "ChanCloseInit") (draft.Channel d)
+      → (m : ChanCloseInit) × IsNamed (codes "ChanCloseInit") (draft.Channel (channel.CloseInit m))
+  as_close_init (channel.CloseInit m) is = (m, is)
+  as_close_init d is = absurd (differ _ _ is.0 refl)
 
-pub as_transfer : (names : List Text) (given : Data) (d : PacketDraft) → IsDraft (codes "Transfer") names given (draft.Packet d)
-    → (m : Transfer) × IsDraft (codes "Transfer") names given (draft.Packet (packet.Transfer m))
-as_transfer names given (packet.Transfer m) is = (m, is)
-as_transfer names given d is = absurd (differ _ _ is.0 refl)
+  pub as_close_confirm : (d : ChannelDraft) → IsNamed (codes "ChanCloseConfirm") (draft.Channel d)
+      → (port id : Text) × (from : ProofSource) × IsNamed (codes "ChanCloseConfirm") (draft.Channel (channel.CloseConfirm port id from))
+  as_close_confirm (channel.CloseConfirm port id from) is = (port, id, from, is)
+  as_close_confirm d is = absurd (differ _ _ is.0 refl)
 
-pub as_transfer_many : (names : List Text) (given : Data) (d : PacketDraft) → IsDraft (codes "TransferMany") names given (draft.Packet d)
-    → (m : TransferMany) × IsDraft (codes "TransferMany") names given (draft.Packet (packet.TransferMany m))
-as_transfer_many names given (packet.TransferMany m) is = (m, is)
-as_transfer_many names given d is = absurd (differ _ _ is.0 refl)
+  pub as_transfer : (d : PacketDraft) → IsNamed (codes "Transfer") (draft.Packet d) → (m : Transfer) × IsNamed (codes "Transfer") (draft.Packet (packet.Transfer m))
+  as_transfer (packet.Transfer m) is = (m, is)
+  as_transfer d is = absurd (differ _ _ is.0 refl)
 
-pub as_send_note : (names : List Text) (given : Data) (d : PacketDraft) → IsDraft (codes "SendNote") names given (draft.Packet d)
-    → (m : SendNote) × IsDraft (codes "SendNote") names given (draft.Packet (packet.SendNote m))
-as_send_note names given (packet.SendNote m) is = (m, is)
-as_send_note names given d is = absurd (differ _ _ is.0 refl)
+  pub as_transfer_many : (d : PacketDraft) → IsNamed (codes "TransferMany") (draft.Packet d)
+      → (m : TransferMany) × IsNamed (codes "TransferMany") (draft.Packet (packet.TransferMany m))
+  as_transfer_many (packet.TransferMany m) is = (m, is)
+  as_transfer_many d is = absurd (differ _ _ is.0 refl)
 
-pub as_recv : (names : List Text) (given : Data) (d : PacketDraft) → IsDraft (codes "RecvPacket") names given (draft.Packet d)
-    → (sent : SentPacket) × (height : ℕ) × IsDraft (codes "RecvPacket") names given (draft.Packet (packet.Recv sent height))
-as_recv names given (packet.Recv sent height) is = (sent, height, is)
-as_recv names given d is = absurd (differ _ _ is.0 refl)
+  pub as_send_note : (d : PacketDraft) → IsNamed (codes "SendNote") (draft.Packet d) → (m : SendNote) × IsNamed (codes "SendNote") (draft.Packet (packet.SendNote m))
+  as_send_note (packet.SendNote m) is = (m, is)
+  as_send_note d is = absurd (differ _ _ is.0 refl)
 
-pub as_ack : (names : List Text) (given : Data) (d : PacketDraft) → IsDraft (codes "AckPacket") names given (draft.Packet d)
-    → (sent : SentPacket) × (from : ProofSource) × IsDraft (codes "AckPacket") names given (draft.Packet (packet.Ack sent from))
-as_ack names given (packet.Ack sent from) is = (sent, from, is)
-as_ack names given d is = absurd (differ _ _ is.0 refl)
+  pub as_recv : (d : PacketDraft) → IsNamed (codes "RecvPacket") (draft.Packet d)
+      → (sent : SentPacket) × (height : ℕ) × IsNamed (codes "RecvPacket") (draft.Packet (packet.Recv sent height))
+  as_recv (packet.Recv sent height) is = (sent, height, is)
+  as_recv d is = absurd (differ _ _ is.0 refl)
 
-pub as_timeout : (names : List Text) (given : Data) (d : PacketDraft) → IsDraft (codes "Timeout") names given (draft.Packet d)
-    → (sent : SentPacket) × (from : ProofSource) × IsDraft (codes "Timeout") names given (draft.Packet (packet.Timeout sent from))
-as_timeout names given (packet.Timeout sent from) is = (sent, from, is)
-as_timeout names given d is = absurd (differ _ _ is.0 refl)
+  pub as_ack : (d : PacketDraft) → IsNamed (codes "AckPacket") (draft.Packet d)
+      → (sent : SentPacket) × (from : ProofSource) × IsNamed (codes "AckPacket") (draft.Packet (packet.Ack sent from))
+  as_ack (packet.Ack sent from) is = (sent, from, is)
+  as_ack d is = absurd (differ _ _ is.0 refl)
 
-pub as_timeout_on_close : (names : List Text) (given : Data) (d : PacketDraft) → IsDraft (codes "TimeoutOnClose") names given (draft.Packet d)
-    → (sent : SentPacket) × (from : ProofSource) × IsDraft (codes "TimeoutOnClose") names given (draft.Packet (packet.TimeoutOnClose sent from))
-as_timeout_on_close names given (packet.TimeoutOnClose sent from) is = (sent, from, is)
-as_timeout_on_close names given d is = absurd (differ _ _ is.0 refl)
+  pub as_timeout : (d : PacketDraft) → IsNamed (codes "Timeout") (draft.Packet d)
+      → (sent : SentPacket) × (from : ProofSource) × IsNamed (codes "Timeout") (draft.Packet (packet.Timeout sent from))
+  as_timeout (packet.Timeout sent from) is = (sent, from, is)
+  as_timeout d is = absurd (differ _ _ is.0 refl)
+
+  pub as_timeout_on_close : (d : PacketDraft) → IsNamed (codes "TimeoutOnClose") (draft.Packet d)
+      → (sent : SentPacket) × (from : ProofSource) × IsNamed (codes "TimeoutOnClose") (draft.Packet (packet.TimeoutOnClose sent from))
+  as_timeout_on_close (packet.TimeoutOnClose sent from) is = (sent, from, is)
+  as_timeout_on_close d is = absurd (differ _ _ is.0 refl)
 
 -- ---- groups of messages, by how their names begin and end
 
@@ -172,75 +172,77 @@ packet_starts d = (refl, refl, refl)
 both_ways : (test : Text → Bool) (a b : Text) → a ≡ b → test a ≡ true → test b ≡ false → ⊥
 both_ways test a b same holds fails = false≢true (sym fails ∙ sym (ap test same) ∙ holds)
 
-pub only_clients : (name : Text) (names : List Text) (given : Data) → ends_with eqb name (codes "Client") ≡ true
-    → ((d : ClientDraft) → ¬ IsDraft name names given (draft.Client d)) → (d : Draft) → ¬ IsDraft name names given d
-only_clients name names given ends none (draft.Client d) is = none d is
-only_clients name names given ends none (draft.Connection d) is = both_ways ends_client name _ (sym is.0) ends (connection_starts d).0
-only_clients name names given ends none (draft.Channel d) is = both_ways ends_client name _ (sym is.0) ends (channel_starts d).0
-only_clients name names given ends none (draft.Packet d) is = both_ways ends_client name _ (sym is.0) ends (packet_starts d).0
-
-pub only_connections : (name : Text) (names : List Text) (given : Data) → ends_with eqb name (codes "Client") ≡ false
-    → starts_with eqb name (codes "Conn") ≡ true
-    → ((d : ConnectionDraft) → ¬ IsDraft name names given (draft.Connection d)) → (d : Draft) → ¬ IsDraft name names given d
-only_connections name names given ends starts none (draft.Client d) is = both_ways ends_client _ name is.0 (client_ends d) ends
-only_connections name names given ends starts none (draft.Connection d) is = none d is
-only_connections name names given ends starts none (draft.Channel d) is = both_ways starts_conn name _ (sym is.0) starts (channel_starts d).1
-only_connections name names given ends starts none (draft.Packet d) is = both_ways starts_conn name _ (sym is.0) starts (packet_starts d).1
-
-pub only_channels : (name : Text) (names : List Text) (given : Data) → ends_with eqb name (codes "Client") ≡ false
-    → starts_with eqb name (codes "Conn") ≡ false → starts_with eqb name (codes "Chan") ≡ true
-    → ((d : ChannelDraft) → ¬ IsDraft name names given (draft.Channel d)) → (d : Draft) → ¬ IsDraft name names given d
-only_channels name names given ends conn starts none (draft.Client d) is = both_ways ends_client _ name is.0 (client_ends d) ends
-only_channels name names given ends conn starts none (draft.Connection d) is = both_ways starts_conn _ name is.0 (connection_starts d).1 conn
-only_channels name names given ends conn starts none (draft.Channel d) is = none d is
-only_channels name names given ends conn starts none (draft.Packet d) is = both_ways starts_chan name _ (sym is.0) starts (packet_starts d).2
-
-pub only_packets : (name : Text) (names : List Text) (given : Data) → ends_with eqb name (codes "Client") ≡ false
-    → starts_with eqb name (codes "Conn") ≡ false → starts_with eqb name (codes "Chan") ≡ false
-    → ((d : PacketDraft) → ¬ IsDraft name names given (draft.Packet d)) → (d : Draft) → ¬ IsDraft name names given d
-only_packets name names given ends conn chan none (draft.Client d) is = both_ways ends_client _ name is.0 (client_ends d) ends
-only_packets name names given ends conn chan none (draft.Connection d) is = both_ways starts_conn _ name is.0 (connection_starts d).1 conn
-only_packets name names given ends conn chan none (draft.Channel d) is = both_ways starts_chan _ name is.0 (channel_starts d).2 chan
-only_packets name names given ends conn chan none (draft.Packet d) is = none d is
-
--- ---- no message of a name
-
 abbrev IsNot : Text → Text → Type 0
 IsNot name word = name ≡ word → ⊥
 
-pub no_client : (name : Text) (names : List Text) (given : Data) → IsNot name (codes "CreateClient") → IsNot name (codes "UpdateClient")
-    → (d : ClientDraft) → ¬ IsDraft name names given (draft.Client d)
-no_client name names given a b (client.Create of) is = a (sym is.0)
-no_client name names given a b (client.Update id height) is = b (sym is.0)
+module _ (name : Text) (names : List Text) (given : Data) where
+  abbrev IsOf : Draft → Type 0
+  IsOf d = IsDraft name names given d
 
-pub no_connection : (name : Text) (names : List Text) (given : Data) → IsNot name (codes "ConnOpenInit") → IsNot name (codes "ConnOpenTry")
-    → IsNot name (codes "ConnOpenAck") → IsNot name (codes "ConnOpenConfirm")
-    → (d : ConnectionDraft) → ¬ IsDraft name names given (draft.Connection d)
-no_connection name names given a b c d (connection.OpenInit id peer) is = a (sym is.0)
-no_connection name names given a b c d (connection.OpenTry id peer link from) is = b (sym is.0)
-no_connection name names given a b c d (connection.OpenAck id peer from) is = c (sym is.0)
-no_connection name names given a b c d (connection.OpenConfirm id from) is = d (sym is.0)
+  pub only_clients : ends_with eqb name (codes "Client") ≡ true → ((d : ClientDraft) → ¬ IsOf (draft.Client d)) → (d : Draft) → ¬ IsOf d
+  only_clients ends none (draft.Client d) is = none d is
+  only_clients ends none (draft.Connection d) is = both_ways ends_client name _ (sym is.0) ends (connection_starts d).0
+  only_clients ends none (draft.Channel d) is = both_ways ends_client name _ (sym is.0) ends (channel_starts d).0
+  only_clients ends none (draft.Packet d) is = both_ways ends_client name _ (sym is.0) ends (packet_starts d).0
 
-pub no_channel : (name : Text) (names : List Text) (given : Data) → IsNot name (codes "ChanOpenInit") → IsNot name (codes "ChanOpenTry")
-    → IsNot name (codes "ChanOpenAck") → IsNot name (codes "ChanOpenConfirm") → IsNot name (codes "ChanCloseInit") → IsNot name (codes "ChanCloseConfirm")
-    → (d : ChannelDraft) → ¬ IsDraft name names given (draft.Channel d)
-no_channel name names given a b c d e f (channel.OpenInit m) is = a (sym is.0)
-no_channel name names given a b c d e f (channel.OpenTry m) is = b (sym is.0)
-no_channel name names given a b c d e f (channel.OpenAck port id peer from) is = c (sym is.0)
-no_channel name names given a b c d e f (channel.OpenConfirm port id from) is = d (sym is.0)
-no_channel name names given a b c d e f (channel.CloseInit m) is = e (sym is.0)
-no_channel name names given a b c d e f (channel.CloseConfirm port id from) is = f (sym is.0)
+  pub only_connections : ends_with eqb name (codes "Client") ≡ false
+      → starts_with eqb name (codes "Conn") ≡ true
+      → ((d : ConnectionDraft) → ¬ IsOf (draft.Connection d)) → (d : Draft) → ¬ IsOf d
+  only_connections ends starts none (draft.Client d) is = both_ways ends_client _ name is.0 (client_ends d) ends
+  only_connections ends starts none (draft.Connection d) is = none d is
+  only_connections ends starts none (draft.Channel d) is = both_ways starts_conn name _ (sym is.0) starts (channel_starts d).1
+  only_connections ends starts none (draft.Packet d) is = both_ways starts_conn name _ (sym is.0) starts (packet_starts d).1
 
-pub no_packet : (name : Text) (names : List Text) (given : Data) → IsNot name (codes "Transfer") → IsNot name (codes "TransferMany")
-    → IsNot name (codes "SendNote") → IsNot name (codes "RecvPacket") → IsNot name (codes "AckPacket") → IsNot name (codes "Timeout")
-    → IsNot name (codes "TimeoutOnClose") → (d : PacketDraft) → ¬ IsDraft name names given (draft.Packet d)
-no_packet name names given a b c d e f g (packet.Transfer m) is = a (sym is.0)
-no_packet name names given a b c d e f g (packet.TransferMany m) is = b (sym is.0)
-no_packet name names given a b c d e f g (packet.SendNote m) is = c (sym is.0)
-no_packet name names given a b c d e f g (packet.Recv sent height) is = d (sym is.0)
-no_packet name names given a b c d e f g (packet.Ack sent from) is = e (sym is.0)
-no_packet name names given a b c d e f g (packet.Timeout sent from) is = f (sym is.0)
-no_packet name names given a b c d e f g (packet.TimeoutOnClose sent from) is = g (sym is.0)
+  pub only_channels : ends_with eqb name (codes "Client") ≡ false
+      → starts_with eqb name (codes "Conn") ≡ false → starts_with eqb name (codes "Chan") ≡ true
+      → ((d : ChannelDraft) → ¬ IsOf (draft.Channel d)) → (d : Draft) → ¬ IsOf d
+  only_channels ends conn starts none (draft.Client d) is = both_ways ends_client _ name is.0 (client_ends d) ends
+  only_channels ends conn starts none (draft.Connection d) is = both_ways starts_conn _ name is.0 (connection_starts d).1 conn
+  only_channels ends conn starts none (draft.Channel d) is = none d is
+  only_channels ends conn starts none (draft.Packet d) is = both_ways starts_chan name _ (sym is.0) starts (packet_starts d).2
+
+  pub only_packets : ends_with eqb name (codes "Client") ≡ false
+      → starts_with eqb name (codes "Conn") ≡ false → starts_with eqb name (codes "Chan") ≡ false
+      → ((d : PacketDraft) → ¬ IsOf (draft.Packet d)) → (d : Draft) → ¬ IsOf d
+  only_packets ends conn chan none (draft.Client d) is = both_ways ends_client _ name is.0 (client_ends d) ends
+  only_packets ends conn chan none (draft.Connection d) is = both_ways starts_conn _ name is.0 (connection_starts d).1 conn
+  only_packets ends conn chan none (draft.Channel d) is = both_ways starts_chan _ name is.0 (channel_starts d).2 chan
+  only_packets ends conn chan none (draft.Packet d) is = none d is
+
+  -- ---- no message of a name
+
+  pub no_client : IsNot name (codes "CreateClient") → IsNot name (codes "UpdateClient") → (d : ClientDraft) → ¬ IsOf (draft.Client d)
+  no_client a b (client.Create of) is = a (sym is.0)
+  no_client a b (client.Update id height) is = b (sym is.0)
+
+  pub no_connection : IsNot name (codes "ConnOpenInit") → IsNot name (codes "ConnOpenTry")
+      → IsNot name (codes "ConnOpenAck") → IsNot name (codes "ConnOpenConfirm")
+      → (d : ConnectionDraft) → ¬ IsOf (draft.Connection d)
+  no_connection a b c d (connection.OpenInit id peer) is = a (sym is.0)
+  no_connection a b c d (connection.OpenTry id peer link from) is = b (sym is.0)
+  no_connection a b c d (connection.OpenAck id peer from) is = c (sym is.0)
+  no_connection a b c d (connection.OpenConfirm id from) is = d (sym is.0)
+
+  pub no_channel : IsNot name (codes "ChanOpenInit") → IsNot name (codes "ChanOpenTry")
+      → IsNot name (codes "ChanOpenAck") → IsNot name (codes "ChanOpenConfirm") → IsNot name (codes "ChanCloseInit") → IsNot name (codes "ChanCloseConfirm")
+      → (d : ChannelDraft) → ¬ IsOf (draft.Channel d)
+  no_channel a b c d e f (channel.OpenInit m) is = a (sym is.0)
+  no_channel a b c d e f (channel.OpenTry m) is = b (sym is.0)
+  no_channel a b c d e f (channel.OpenAck port id peer from) is = c (sym is.0)
+  no_channel a b c d e f (channel.OpenConfirm port id from) is = d (sym is.0)
+  no_channel a b c d e f (channel.CloseInit m) is = e (sym is.0)
+  no_channel a b c d e f (channel.CloseConfirm port id from) is = f (sym is.0)
+
+  pub no_packet : IsNot name (codes "Transfer") → IsNot name (codes "TransferMany")
+      → IsNot name (codes "SendNote") → IsNot name (codes "RecvPacket") → IsNot name (codes "AckPacket") → IsNot name (codes "Timeout")
+      → IsNot name (codes "TimeoutOnClose") → (d : PacketDraft) → ¬ IsOf (draft.Packet d)
+  no_packet a b c d e f g (packet.Transfer m) is = a (sym is.0)
+  no_packet a b c d e f g (packet.TransferMany m) is = b (sym is.0)
+  no_packet a b c d e f g (packet.SendNote m) is = c (sym is.0)
+  no_packet a b c d e f g (packet.Recv sent height) is = d (sym is.0)
+  no_packet a b c d e f g (packet.Ack sent from) is = e (sym is.0)
+  no_packet a b c d e f g (packet.Timeout sent from) is = f (sym is.0)
+  no_packet a b c d e f g (packet.TimeoutOnClose sent from) is = g (sym is.0)
 
 -- ---- steps
 
@@ -266,76 +268,62 @@ no_message k word given first second known =
 other : (a b : Text) (given : Data) → Says a given → Says b given → bytes_eq a b ≡ false → ⊥
 other a b given first second = differ a b (one_word a b given first second)
 
-pub as_block : (names : List Text) (given : Data) → Says (codes "Block") given → (s : Step) → IsStepObject names s (Some given)
-    → (on : ℕ) × (time : Option ℕ) × IsStepObject names (step.Block on time) (Some given)
-as_block names given says (step.Block on time) is = (on, time, is)
-as_block names given says (step.Message on d) is = absurd (no_message (draft_kind d) _ given is.1.0 says refl)
-as_block names given says s is = absurd (other _ _ given is.1.0 says refl)
+module _ (names : List Text) (given : Data) where
+  abbrev IsStep : Step → Type 0
+  IsStep s = IsStepObject names s (Some given)
 
-pub as_root : (names : List Text) (given : Data) → Says (codes "root") given → (s : Step) → IsStepObject names s (Some given)
-    → (on height : ℕ) × IsStepObject names (step.Root on height) (Some given)
-as_root names given says (step.Root on height) is = (on, height, is)
-as_root names given says (step.Message on d) is = absurd (no_message (draft_kind d) _ given is.1.0 says refl)
-as_root names given says s is = absurd (other _ _ given is.1.0 says refl)
+  pub as_block : Says (codes "Block") given → (s : Step) → IsStep s → (on : ℕ) × (time : Option ℕ) × IsStep (step.Block on time)
+  as_block says (step.Block on time) is = (on, time, is)
+  as_block says (step.Message on d) is = absurd (no_message (draft_kind d) _ given is.1.0 says refl)
+  as_block says s is = absurd (other _ _ given is.1.0 says refl)
 
-pub as_prove : (names : List Text) (given : Data) → Says (codes "prove") given → (s : Step) → IsStepObject names s (Some given)
-    → (on height : ℕ) × (key : Key) × IsStepObject names (step.Prove on height key) (Some given)
-as_prove names given says (step.Prove on height key) is = (on, height, key, is)
-as_prove names given says (step.Message on d) is = absurd (no_message (draft_kind d) _ given is.1.0 says refl)
-as_prove names given says s is = absurd (other _ _ given is.1.0 says refl)
+  pub as_root : Says (codes "root") given → (s : Step) → IsStep s → (on height : ℕ) × IsStep (step.Root on height)
+  as_root says (step.Root on height) is = (on, height, is)
+  as_root says (step.Message on d) is = absurd (no_message (draft_kind d) _ given is.1.0 says refl)
+  as_root says s is = absurd (other _ _ given is.1.0 says refl)
 
-pub as_totals : (names : List Text) (given : Data) → Says (codes "totals") given → (s : Step) → IsStepObject names s (Some given)
-    → (on : ℕ) × (id denom : Text) × IsStepObject names (step.Totals on id denom) (Some given)
-as_totals names given says (step.Totals on id denom) is = (on, id, denom, is)
-as_totals names given says (step.Message on d) is = absurd (no_message (draft_kind d) _ given is.1.0 says refl)
-as_totals names given says s is = absurd (other _ _ given is.1.0 says refl)
+  pub as_prove : Says (codes "prove") given → (s : Step) → IsStep s → (on height : ℕ) × (key : Key) × IsStep (step.Prove on height key)
+  as_prove says (step.Prove on height key) is = (on, height, key, is)
+  as_prove says (step.Message on d) is = absurd (no_message (draft_kind d) _ given is.1.0 says refl)
+  as_prove says s is = absurd (other _ _ given is.1.0 says refl)
 
-pub as_open : (names : List Text) (given : Data) → Says (codes "open") given → (s : Step) → IsStepObject names s (Some given)
-    → (first second : ℕ) × (app : Application) × IsStepObject names (step.Open first second app) (Some given)
-as_open names given says (step.Open first second app) is = (first, second, app, is)
-as_open names given says (step.Message on d) is = absurd (no_message (draft_kind d) _ given is.1.0 says refl)
-as_open names given says s is = absurd (other _ _ given is.1.0 says refl)
+  pub as_totals : Says (codes "totals") given → (s : Step) → IsStep s → (on : ℕ) × (id denom : Text) × IsStep (step.Totals on id denom)
+  as_totals says (step.Totals on id denom) is = (on, id, denom, is)
+  as_totals says (step.Message on d) is = absurd (no_message (draft_kind d) _ given is.1.0 says refl)
+  as_totals says s is = absurd (other _ _ given is.1.0 says refl)
 
-pub as_relay : (names : List Text) (given : Data) → Says (codes "relay") given → (s : Step) → IsStepObject names s (Some given)
-    → (first second turns : ℕ) × IsStepObject names (step.Relay first second turns) (Some given)
-as_relay names given says (step.Relay first second turns) is = (first, second, turns, is)
-as_relay names given says (step.Message on d) is = absurd (no_message (draft_kind d) _ given is.1.0 says refl)
-as_relay names given says s is = absurd (other _ _ given is.1.0 says refl)
+  pub as_open : Says (codes "open") given → (s : Step) → IsStep s → (first second : ℕ) × (app : Application) × IsStep (step.Open first second app)
+  as_open says (step.Open first second app) is = (first, second, app, is)
+  as_open says (step.Message on d) is = absurd (no_message (draft_kind d) _ given is.1.0 says refl)
+  as_open says s is = absurd (other _ _ given is.1.0 says refl)
 
--- the step of a message has the message's members beside its own
-pub as_message : (names : List Text) (given : Data) (name : Text) → Says name given → (on : ℕ) (d : Draft)
-    → IsStepObject names (step.Message on d) (Some given) → IsDraft name names given d
-as_message names given name says on d is = (one_word (name_of (draft_kind d)) name given is.1.0 says, (is.0, is.1.1.1))
+  pub as_relay : Says (codes "relay") given → (s : Step) → IsStep s → (first second turns : ℕ) × IsStep (step.Relay first second turns)
+  as_relay says (step.Relay first second turns) is = (first, second, turns, is)
+  as_relay says (step.Message on d) is = absurd (no_message (draft_kind d) _ given is.1.0 says refl)
+  as_relay says s is = absurd (other _ _ given is.1.0 says refl)
 
--- each step says what it does
-pub says_something : (names : List Text) (given : Data) (s : Step) → IsStepObject names s (Some given) → (word : Text) × Says word given
-says_something names given (step.Message on d) is = (name_of (draft_kind d), is.1.0)
-says_something names given (step.Block on time) is = (codes "Block", is.1.0)
-says_something names given (step.Root on height) is = (codes "root", is.1.0)
-says_something names given (step.Prove on height key) is = (codes "prove", is.1.0)
-says_something names given (step.Totals on id denom) is = (codes "totals", is.1.0)
-says_something names given (step.Open first second app) is = (codes "open", is.1.0)
-says_something names given (step.Relay first second turns) is = (codes "relay", is.1.0)
+  -- the step of a message has the message's members beside its own
+  pub as_message : (name : Text) → Says name given → (on : ℕ) (d : Draft) → IsStep (step.Message on d) → IsDraft name names given d
+  as_message name says on d is = (one_word (name_of (draft_kind d)) name given is.1.0 says, (is.0, is.1.1.1))
 
--- where `do` says none of the words, and no message is so, no step is
-pub no_step : (names : List Text) (given : Data) (name : Text) → Says name given → IsNot name (codes "Block") → IsNot name (codes "root")
-    → IsNot name (codes "prove") → IsNot name (codes "totals") → IsNot name (codes "open") → IsNot name (codes "relay")
-    → ((on : ℕ) (d : Draft) → ¬ IsStepObject names (step.Message on d) (Some given)) → (s : Step) → ¬ IsStepObject names s (Some given)
-no_step names given name says a b c d e f none (step.Message on m) is = none on m is
-no_step names given name says a b c d e f none (step.Block on time) is = a (one_word name _ given says is.1.0)
-no_step names given name says a b c d e f none (step.Root on height) is = b (one_word name _ given says is.1.0)
-no_step names given name says a b c d e f none (step.Prove on height key) is = c (one_word name _ given says is.1.0)
-no_step names given name says a b c d e f none (step.Totals on id denom) is = d (one_word name _ given says is.1.0)
-no_step names given name says a b c d e f none (step.Open first second app) is = e (one_word name _ given says is.1.0)
-no_step names given name says a b c d e f none (step.Relay first second turns) is = f (one_word name _ given says is.1.0)
+  -- each step says what it does
+  pub says_something : (s : Step) → IsStep s → (word : Text) × Says word given
+  says_something (step.Message on d) is = (name_of (draft_kind d), is.1.0)
+  says_something (step.Block on time) is = (codes "Block", is.1.0)
+  says_something (step.Root on height) is = (codes "root", is.1.0)
+  says_something (step.Prove on height key) is = (codes "prove", is.1.0)
+  says_something (step.Totals on id denom) is = (codes "totals", is.1.0)
+  says_something (step.Open first second app) is = (codes "open", is.1.0)
+  says_something (step.Relay first second turns) is = (codes "relay", is.1.0)
 
--- ---- faults that are passed on
-
--- what comes out of a map as a fault was that before
-pub err_before : {T U E : Type 0} (r : Result T E) (mapped : Result U E) (e : E) (Q : T → Type 0) → MatchResult r Q (λ (d : E). mapped ≡ Err d)
-    → is_ok mapped ≡ is_ok r → mapped ≡ Err e → r ≡ Err e
-err_before (Ok x) mapped e Q cases same is = absurd (false≢true (sym (ap is_ok is) ∙ same))
-err_before (Err d) mapped e Q cases same is =
-    let both = sym cases ∙ is in
-    let one : d ≡ e = cc in
-    ap Err one
+  -- where `do` says none of the words, and no message is so, no step is
+  pub no_step : (name : Text) → Says name given → IsNot name (codes "Block") → IsNot name (codes "root")
+      → IsNot name (codes "prove") → IsNot name (codes "totals") → IsNot name (codes "open") → IsNot name (codes "relay")
+      → ((on : ℕ) (d : Draft) → ¬ IsStep (step.Message on d)) → (s : Step) → ¬ IsStep s
+  no_step name says a b c d e f none (step.Message on m) is = none on m is
+  no_step name says a b c d e f none (step.Block on time) is = a (one_word name _ given says is.1.0)
+  no_step name says a b c d e f none (step.Root on height) is = b (one_word name _ given says is.1.0)
+  no_step name says a b c d e f none (step.Prove on height key) is = c (one_word name _ given says is.1.0)
+  no_step name says a b c d e f none (step.Totals on id denom) is = d (one_word name _ given says is.1.0)
+  no_step name says a b c d e f none (step.Open first second app) is = e (one_word name _ given says is.1.0)
+  no_step name says a b c d e f none (step.Relay first second turns) is = f (one_word name _ given says is.1.0)

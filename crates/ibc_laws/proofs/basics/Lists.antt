@@ -1,5 +1,5 @@
 -- Lists with one element more, and lists of numbers.
-use Rattle.std.proofs.Common.{◌≡◌, ℕ, zero, suc, ◌<◌, Bool, true, false, refl, ap, sym, List, [], ◌∷◌, ◌++◌, length, Option, Some, None, ◌⊎◌, inl, inr, arith, ◌||◌, ◌==◌, cond, filter, filter_map, nat_eq, Contains, eqb-true, slice_get}
+use Rattle.std.proofs.Common.{◌≡◌, ℕ, zero, suc, ◌<◌, Bool, true, false, refl, ap, sym, subst, List, [], ◌∷◌, ◌++◌, length, Option, Some, None, ◌⊎◌, inl, inr, arith, ◌||◌, ◌==◌, cond, filter, filter_map, nat_eq, Contains, eqb-true, slice_get}
 use Rattle.std.specs.List.{IsDistinct, AllByRecursion, cons_option}
 use Rattle.ibc_machine.specs.chain.Records.{is_one_of}
 use Rattle.ibc_laws.proofs.basics.PassedTests.{either, or_false}
@@ -88,6 +88,10 @@ among-contains (x ∷ xs) n (suc k, lt, e) =
 pub lemma_contains_one : {A : Type 0} (x y : A) → Contains (x ∷ []) y → x ≡ y
 lemma_contains_one x y (zero, lt, e) = e
 lemma_contains_one x y (suc k, lt, e) = absurd (omega arith)
+
+-- the first element
+pub lemma_contains_first : {A : Type 0} (xs rest : List A) (x : A) → xs ≡ x ∷ rest → Contains xs x
+lemma_contains_first xs rest x is = subst (λ ys. Contains ys x) (sym is) (0, omega arith, refl)
 
 -- what is at a place is an element
 pub lemma_got_contains : {A : Type 0} (xs : List A) (i : ℕ) (x : A) → slice_get xs i ≡ Some x → Contains xs x

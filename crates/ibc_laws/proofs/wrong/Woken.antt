@@ -1,34 +1,11 @@
 -- A note is received at an end that is CLOSED.
-use Rattle.std.proofs.Common.{◌≡◌, true, refl, sym, ◌∙◌, List, [], ◌∷◌, ◌++◌, Contains, Some, codes}
-use Rattle.std.specs.Prelude.{IsTrue}
-use Rattle.std.specs.List.{list_all}
-use Rattle.ibc_wire.specs.declared.packet.Packet.{Packet}
 use Rattle.ibc_wire.specs.declared.records.ChannelState.TheVariants.{Closed}
-use Rattle.ibc_machine.specs.declared.event.Event.{Event}
-use Rattle.ibc_machine.specs.chain.Genesis.{GenesisState, start, is_allowed}
-use Rattle.ibc_machine.specs.chain.Machine.{World}
-use Rattle.ibc_machine.specs.ledger.Ledgers.{is_typed}
-use Rattle.ibc_machine.specs.promises.Histories.{End, received_packets}
+use Rattle.ibc_machine.specs.promises.Histories.{received_packets}
 use Rattle.ibc_machine.specs.promises.Peers.{end_at}
-use Rattle.ibc_machine.proofs.Computing.{computing}
-use Rattle.ibc_machine.proofs.Scripts.{a, b, a_and_b, for_notes, block, update}
-use Rattle.ibc_machine.proofs.Openings.{opening, close_channel}
-use Rattle.ibc_machine.proofs.PacketScripts.{recv, note, noted}
-use Rattle.ibc_laws.specs.StoredNotes.{note_end}
-use Rattle.ibc_laws.specs.Runs.{Machine, WorldStep, steps_by, world_by, FirstLaws, HoldsOf, IsRefusedByAlone, ClosedIsSilent}
-use Rattle.ibc_laws.specs.WrongPackets.{machine_comparing}
+use Rattle.ibc_machine.proofs.Openings.{close_channel}
+use Rattle.ibc_laws.specs.Runs.{ClosedIsSilent}
 use Rattle.ibc_laws.specs.WrongEnds.{machine_opening, is_closed, ReceivesClosed}
-use Rattle.ibc_laws.proofs.wrong.TypedEvents.{typed}
-use Rattle.ibc_laws.proofs.wrong.LastStep.{last_step, lemma_last_step}
-use Rattle.ibc_laws.proofs.wrong.EachEnd.{mine_in, each_end}
-use Rattle.ibc_laws.proofs.wrong.TestedFirst.{keeps_first_laws, lemma_first_laws, has_no_tokens, lemma_no_tokens}
-use Rattle.ibc_laws.proofs.wrong.TestedAll.{passes_all_but, lemma_others_hold}
-
-abbrev genesis : GenesisState
-genesis = a_and_b
-
-abbrev machine : Machine
-machine = machine_opening is_closed genesis
+use Rattle.ibc_laws.proofs.wrong.Common.{◌≡◌, true, refl, List, [], ◌∷◌, ◌++◌, Some, codes, Packet, Event, start, WorldStep, IsRefusedByAlone, a, b, a_and_b, for_notes, block, update, opening, recv, note, noted, mine_in, typed, last_step, lemma_last_step, Run, from_a_and_b, steps_in, world_in, computing_wrongly, notes_of_b, keeps_all_but, has_no_escrow, lemma_refused_with_notes}
 
 abbrev sent_before : Packet
 sent_before = noted 1 (codes "n1")
@@ -39,80 +16,41 @@ last = recv b sent_before 4
 abbrev earlier : List Event
 earlier = typed (opening a b for_notes 0 0 ++ note a (codes "n1") ∷ block a ∷ update b a 4 ∷ close_channel b for_notes ∷ [])
 
-abbrev events : List Event
-events = earlier ++ last ∷ []
-
-abbrev steps : List WorldStep
-steps = steps_by machine (start genesis) events
-
-abbrev world : World
-world = world_by machine (start genesis) events
-
-abbrev before : World
-before = world_by machine (start genesis) earlier
+abbrev run : Run
+run = from_a_and_b (machine_opening is_closed) (earlier ++ last ∷ [])
 
 abbrev step : WorldStep
-step = last_step machine (start genesis) earlier last
+step = last_step (machine_opening is_closed a_and_b) (start a_and_b) earlier last
 
-abbrev there_ : End
-there_ = note_end 1 b.channel
+lemma_others : keeps_all_but ClosedIsSilent has_no_escrow run ≡ true
+unfolding computing_wrongly
+lemma_others = refl
 
-lemma_allowed : IsTrue (is_allowed genesis)
-unfolding computing
-lemma_allowed = refl
-
-lemma_typed : IsTrue (list_all is_typed events)
-unfolding computing
-lemma_typed = refl
-
-lemma_first : keeps_first_laws steps world ≡ true
-unfolding computing machine_comparing machine_opening
-lemma_first = refl
-
-lemma_none : each_end world has_no_tokens ≡ true
-unfolding computing machine_comparing machine_opening
-lemma_none = refl
-
-lemma_laws : FirstLaws steps world
-lemma_laws = lemma_first_laws steps world lemma_first (lemma_no_tokens world lemma_none)
-
--- ---- the other laws
-
-lemma_pass : passes_all_but ClosedIsSilent genesis steps world ≡ true
-unfolding computing machine_comparing machine_opening
-lemma_pass = refl
-
--- ---- the law that fails
-
-lemma_among : Contains steps step
-lemma_among = lemma_last_step machine (start genesis) earlier last
-
-lemma_own : end_at before there_ ≡ Some (mine_in before there_)
-unfolding computing machine_comparing machine_opening
+lemma_own : end_at step.0 notes_of_b ≡ Some (mine_in step.0 notes_of_b)
+unfolding computing_wrongly
 lemma_own = refl
 
-lemma_closed : (mine_in before there_).end.state ≡ Closed
-unfolding computing machine_comparing machine_opening
+lemma_closed : (mine_in step.0 notes_of_b).end.state ≡ Closed
+unfolding computing_wrongly
 lemma_closed = refl
 
-lemma_received_it : received_packets there_ (step.1 ∷ []) ≡ sent_before ∷ []
-unfolding computing machine_comparing machine_opening
+lemma_received_it : received_packets notes_of_b (step.1 ∷ []) ≡ sent_before ∷ []
+unfolding computing_wrongly
 lemma_received_it = refl
 
-lemma_fails : ¬ (HoldsOf ClosedIsSilent genesis steps world)
-lemma_fails all =
-    let silent = all step lemma_among there_ (mine_in before there_) lemma_own lemma_closed in
-    let none : sent_before ∷ [] ≡ [] = sym lemma_received_it ∙ silent.receives in
-    absurd (cc none)
+lemma_so : ReceivesClosed a_and_b (steps_in run) (world_in run)
+lemma_so = record {
+  step = step;
+  among = lemma_last_step (machine_opening is_closed a_and_b) (start a_and_b) earlier last;
+  e = notes_of_b;
+  mine = mine_in step.0 notes_of_b;
+  own = lemma_own;
+  closed = lemma_closed;
+  packet = sent_before;
+  received_it = lemma_received_it;
+}
 
 pub lemma_woken : IsRefusedByAlone ClosedIsSilent (machine_opening is_closed) ReceivesClosed
-lemma_woken = record {
-  genesis = genesis;
-  allowed = lemma_allowed;
-  events = events;
-  typed = lemma_typed;
-  first_laws = lemma_laws;
-  fails = lemma_fails;
-  so = record { step = step; among = lemma_among; e = there_; mine = mine_in before there_; own = lemma_own; closed = lemma_closed; packet = sent_before; received_it = lemma_received_it };
-  others = lemma_others_hold ClosedIsSilent genesis steps world lemma_pass;
-}
+lemma_woken = lemma_refused_with_notes ClosedIsSilent run ReceivesClosed lemma_others lemma_so
+    (λ all. let silent = all lemma_so.step lemma_so.among lemma_so.e lemma_so.mine lemma_so.own lemma_so.closed in
+    absurd (cc (lemma_so.received_it, silent.receives)))

@@ -15,35 +15,23 @@ returns-in_err-start-clause-crash g c = nothing_yet (state g.S.Store c.args.conn
 
 pub returns-in_err-insert_each-clause-crash : goal.returns-in_err-insert_each-clause-crash
 returns-in_err-insert_each-clause-crash g c =
-    let old = state g.S.Store c.args.conn.now in
-    let begun = state g.S.Store c.start.new.conn in
-    let full = state g.S.Store c.insert_each.new.conn in
-    before_commit old begun c.args.first (items_of c.args.entries.now) (λ clean. c.in_ok-start.ensures.begun clean) c.start.ensures.crash full c.insert_each.ensures.crash
+    before_commit (state g.S.Store c.args.conn.now) (state g.S.Store c.start.new.conn) c.args.first (items_of c.args.entries.now) (λ clean. c.in_ok-start.ensures.begun clean) c.start.ensures.crash
+    (state g.S.Store c.insert_each.new.conn) c.insert_each.ensures.crash
 
 pub returns-in_err-commit-clause-crash : goal.returns-in_err-commit-clause-crash
 returns-in_err-commit-clause-crash g c =
-    let old = state g.S.Store c.args.conn.now in
-    let begun = state g.S.Store c.start.new.conn in
-    let full = state g.S.Store c.insert_each.new.conn in
-    let new = state g.S.Store c.commit.new.conn in
-    with_commit old begun c.args.first (items_of c.args.entries.now) (λ clean. c.in_ok-start.ensures.begun clean) c.start.ensures.crash full new c.in_ok-insert_each.ensures.put c.insert_each.ensures.crash c.commit.ensures.crash
+    with_commit (state g.S.Store c.args.conn.now) (state g.S.Store c.start.new.conn) c.args.first (items_of c.args.entries.now) (λ clean. c.in_ok-start.ensures.begun clean) c.start.ensures.crash
+    (state g.S.Store c.insert_each.new.conn) (state g.S.Store c.commit.new.conn) c.in_ok-insert_each.ensures.put c.insert_each.ensures.crash c.commit.ensures.crash
 
 pub returns-clause-crash : goal.returns-clause-crash
 returns-clause-crash g c =
-    let old = state g.S.Store c.args.conn.now in
-    let begun = state g.S.Store c.start.new.conn in
-    let full = state g.S.Store c.insert_each.new.conn in
-    let new = state g.S.Store c.commit.new.conn in
-    with_commit old begun c.args.first (items_of c.args.entries.now) (λ clean. c.in_ok-start.ensures.begun clean) c.start.ensures.crash full new c.in_ok-insert_each.ensures.put c.insert_each.ensures.crash c.commit.ensures.crash
+    with_commit (state g.S.Store c.args.conn.now) (state g.S.Store c.start.new.conn) c.args.first (items_of c.args.entries.now) (λ clean. c.in_ok-start.ensures.begun clean) c.start.ensures.crash
+    (state g.S.Store c.insert_each.new.conn) (state g.S.Store c.commit.new.conn) c.in_ok-insert_each.ensures.put c.insert_each.ensures.crash c.commit.ensures.crash
 
 pub returns-clause-committed : goal.returns-clause-committed
-returns-clause-committed g c =
-    let old = state g.S.Store c.args.conn.now in
-    let begun = state g.S.Store c.start.new.conn in
-    let full = state g.S.Store c.insert_each.new.conn in
-    let new = state g.S.Store c.commit.new.conn in
-    λ genesis items has at clean.
-    committed_all old begun c.args.first (items_of c.args.entries.now) (λ clean. c.in_ok-start.ensures.begun clean) c.start.ensures.crash full new c.in_ok-insert_each.ensures.put c.insert_each.ensures.crash c.commit.ensures.crash
+returns-clause-committed g c genesis items has at clean =
+    committed_all (state g.S.Store c.args.conn.now) (state g.S.Store c.start.new.conn) c.args.first (items_of c.args.entries.now) (λ clean. c.in_ok-start.ensures.begun clean) c.start.ensures.crash
+    (state g.S.Store c.insert_each.new.conn) (state g.S.Store c.commit.new.conn) c.in_ok-insert_each.ensures.put c.insert_each.ensures.crash c.commit.ensures.crash
     (λ clean. c.in_ok-commit.ensures.committed clean) genesis items has at clean
 
 pub returns-clause-seen : goal.returns-clause-seen

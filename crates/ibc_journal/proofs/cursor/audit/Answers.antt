@@ -6,7 +6,7 @@ use Rattle.sqlite.specs.Held.{state}
 use Rattle.ibc_journal.specs.Faults.{IsOfReading}
 use Rattle.std.specs.Prelude.{IfSome}
 use Rattle.ibc_journal.specs.declared.entry.JournalEntry.{JournalEntry}
-use Rattle.ibc_journal.proofs.Whole.{keeps_on, nothing_then, survives_same}
+use Rattle.ibc_journal.proofs.Whole.{keeps_on, nothing_on, nothing_then, survives_same}
 use Rattle.ibc_journal.proofs.Chained.{reads_end, first_damage}
 use Rattle.ibc_journal.specs.declared.fault.JournalFault.TheVariants.{Damaged, Gap, Full}
 use Rattle.ibc_journal.proofs.cursor.audit.Goals as goal
@@ -28,20 +28,14 @@ returns-in_err-entry-clause-damaged g c items has clean place is =
 pub returns-in_err-end_at-in-None-clause-crash : goal.returns-in_err-end_at-in-None-clause-crash
 returns-in_err-end_at-in-None-clause-crash g c =
     let at = c.reading in
-    let old = state g.S.Store c.args.conn.now in
-    let mid = state g.S.Store at.conn in
-    let new = state g.S.Store c.next.new.conn in
-    let kept = keeps_on old mid new at.invariant.kept c.next.ensures.crash.clean c.in_ok-entry.ensures.same in
-    nothing_then old new (state g.S.Store c.end_at.new.conn) kept (nothing_then old mid new at.invariant.kept at.invariant.crash c.next.ensures.crash) c.end_at.ensures.crash
+    nothing_on (state g.S.Store c.args.conn.now) (state g.S.Store at.conn) (state g.S.Store c.next.new.conn) (state g.S.Store c.end_at.new.conn) at.invariant.kept
+    at.invariant.crash c.next.ensures.crash c.in_ok-entry.ensures.same c.end_at.ensures.crash
 
 pub returns-in-None-clause-crash : goal.returns-in-None-clause-crash
 returns-in-None-clause-crash g c =
     let at = c.reading in
-    let old = state g.S.Store c.args.conn.now in
-    let mid = state g.S.Store at.conn in
-    let new = state g.S.Store c.next.new.conn in
-    let kept = keeps_on old mid new at.invariant.kept c.next.ensures.crash.clean c.in_ok-entry.ensures.same in
-    nothing_then old new (state g.S.Store c.end_at.new.conn) kept (nothing_then old mid new at.invariant.kept at.invariant.crash c.next.ensures.crash) c.end_at.ensures.crash
+    nothing_on (state g.S.Store c.args.conn.now) (state g.S.Store at.conn) (state g.S.Store c.next.new.conn) (state g.S.Store c.end_at.new.conn) at.invariant.kept
+    at.invariant.crash c.next.ensures.crash c.in_ok-entry.ensures.same c.end_at.ensures.crash
 
 pub returns-in-None-clause-whole : goal.returns-in-None-clause-whole
 returns-in-None-clause-whole g c items has clean =

@@ -8,15 +8,13 @@ use Rattle.ibc_journal.proofs.cursor.end_at.Goals as goal
 
 pub returns-in_err-has_early-clause-crash : goal.returns-in_err-has_early-clause-crash
 returns-in_err-has_early-clause-crash g c =
-    let old = state g.S.Store c.args.conn.now in
-    let mid = state g.S.Store c.is_end.new.conn in
-    nothing_then old mid (state g.S.Store c.has_early.new.conn) (keeps_once old mid c.in_ok-is_end.ensures.same) c.is_end.ensures.crash c.has_early.ensures.crash
+    nothing_then (state g.S.Store c.args.conn.now) (state g.S.Store c.is_end.new.conn) (state g.S.Store c.has_early.new.conn)
+    (keeps_once (state g.S.Store c.args.conn.now) (state g.S.Store c.is_end.new.conn) c.in_ok-is_end.ensures.same) c.is_end.ensures.crash c.has_early.ensures.crash
 
 pub returns-then-branch-clause-crash : goal.returns-then-branch-clause-crash
 returns-then-branch-clause-crash g c =
-    let old = state g.S.Store c.args.conn.now in
-    let mid = state g.S.Store c.is_end.new.conn in
-    nothing_then old mid (state g.S.Store c.has_early.new.conn) (keeps_once old mid c.in_ok-is_end.ensures.same) c.is_end.ensures.crash c.has_early.ensures.crash
+    nothing_then (state g.S.Store c.args.conn.now) (state g.S.Store c.is_end.new.conn) (state g.S.Store c.has_early.new.conn)
+    (keeps_once (state g.S.Store c.args.conn.now) (state g.S.Store c.is_end.new.conn) c.in_ok-is_end.ensures.same) c.is_end.ensures.crash c.has_early.ensures.crash
 
 pub returns-then-branch-clause-early : goal.returns-then-branch-clause-early
 returns-then-branch-clause-early g c genesis items has clean is =
@@ -28,9 +26,8 @@ returns-then-branch-clause-early g c genesis items has clean is =
 
 pub returns-clause-crash : goal.returns-clause-crash
 returns-clause-crash g c =
-    let old = state g.S.Store c.args.conn.now in
-    let mid = state g.S.Store c.is_end.new.conn in
-    nothing_then old mid (state g.S.Store c.has_early.new.conn) (keeps_once old mid c.in_ok-is_end.ensures.same) c.is_end.ensures.crash c.has_early.ensures.crash
+    nothing_then (state g.S.Store c.args.conn.now) (state g.S.Store c.is_end.new.conn) (state g.S.Store c.has_early.new.conn)
+    (keeps_once (state g.S.Store c.args.conn.now) (state g.S.Store c.is_end.new.conn) c.in_ok-is_end.ensures.same) c.is_end.ensures.crash c.has_early.ensures.crash
 
 pub returns-clause-ended : goal.returns-clause-ended
 returns-clause-ended g c genesis items has clean =

@@ -1,27 +1,21 @@
 -- The query shows the places behind a reader.
-use Rattle.std.proofs.Common.{◌≡◌, ◌==◌, true, List, [], ◌∷◌, length, eqb-true, refl, sym, ap, ◌∙◌, arith}
+use Rattle.std.proofs.Common.{◌≡◌, ◌==◌, true, List, [], length, eqb-true, sym, ap, ◌∙◌, arith}
 use Rattle.sqlite.specs.Order.{Row}
 use Rattle.sqlite.specs.Held.{state}
-use Rattle.sqlite.proofs.StateLemmas.{survives_weaker}
-use Rattle.ibc_journal.proofs.Found.{ends, ends_only, ends_unchanged, ends_nothing}
+use Rattle.ibc_journal.proofs.Statements.{behind_asks}
+use Rattle.ibc_journal.proofs.Found.{params_at, none_of_none, ends, ends_only, changes_nothing, leaves_nothing}
 use Rattle.ibc_journal.proofs.cursor.is_end.Goals as goal
 
-none_long : (rows : List Row) → length rows ≡ 0 → rows ≡ []
-none_long [] none = refl
-none_long (row ∷ rows) none = absurd (omega arith)
-
 none_in : (rows : List Row) → (length rows == 0) ≡ true → rows ≡ []
-none_in rows none = none_long rows (eqb-true (length rows) 0 none)
+none_in rows none = none_of_none rows (eqb-true (length rows) 0 none)
 
 pub returns-in_err-rows-clause-crash : goal.returns-in_err-rows-clause-crash
 returns-in_err-rows-clause-crash g c =
-    let old = state g.S.Store c.args.conn.now in
-    survives_weaker old (state g.S.Store c.query_all.new.self) _ _ (λ clean db may. ends_nothing old _ db may) c.query_all.ensures.survives
+    leaves_nothing behind_asks (state g.S.Store c.args.conn.now) (state g.S.Store c.query_all.new.self) _ c.query_all.ensures.survives
 
 pub returns-clause-crash : goal.returns-clause-crash
 returns-clause-crash g c =
-    let old = state g.S.Store c.args.conn.now in
-    survives_weaker old (state g.S.Store c.query_all.new.self) _ _ (λ clean db may. ends_nothing old _ db may) c.query_all.ensures.survives
+    leaves_nothing behind_asks (state g.S.Store c.args.conn.now) (state g.S.Store c.query_all.new.self) _ c.query_all.ensures.survives
 
 pub returns-clause-end : goal.returns-clause-end
 returns-clause-end g c genesis items has at clean =
@@ -41,4 +35,4 @@ pub returns-clause-same : goal.returns-clause-same
 returns-clause-same g c genesis items has clean =
     let old = state g.S.Store c.args.conn.now in
     let new = state g.S.Store c.query_all.new.self in
-    ends_unchanged old new genesis items has c.args.from _ (rw c.params-to_sql.ensures at (c.in_ok-rows.ensures.ok clean))
+    changes_nothing behind_asks old new has (params_at c.args.from) _ (rw c.params-to_sql.ensures at (c.in_ok-rows.ensures.ok clean))

@@ -1,10 +1,9 @@
-use Rattle.std.proofs.Common.{◌≡◌, ◌∙◌, Err, ap, arith, subst, sym}
+use Rattle.std.proofs.Common.{◌∙◌, arith, subst, sym}
 use Rattle.std.proofs.lemmas.Option.{none-some, same_Some}
-use Rattle.std.proofs.lemmas.Result.{err_from_is_err_and}
 use Rattle.serde_json.specs.Data.{Data}
 use Rattle.serde_json.specs.View.{view}
 use Rattle.ibc_script.specs.ScriptValues.{IsScript}
-use Rattle.ibc_script.specs.declared.fault.Fault.TheVariants.{BadScript}
+use Rattle.ibc_script.proofs.PassedFaults.{passed_on}
 use Rattle.ibc_script.proofs.reading.read_script.Goals as goal
 
 pub returns-then-bytes-gt-MOST_BYTES-clause-bad : goal.returns-then-bytes-gt-MOST_BYTES-clause-bad
@@ -15,9 +14,7 @@ returns-then-bytes-gt-MOST_BYTES-clause-bad c bad content is =
 
 pub returns-in_err-value-clause-bad : goal.returns-in_err-value-clause-bad
 returns-in_err-value-clause-bad c bad content is =
-    let p = err_from_is_err_and c.from_residual.result c.from_residual.ensures.1 in
-    let fault : c.in_err-value.field-0.0 ≡ BadScript = (let a = p.1 in let b = p.2 in cc) in
-    none-some is.2 (sym (c.in_err-value.ensures.bad (ap Err fault) is.1) ∙ is.3)
+    none-some is.2 (sym (c.in_err-value.ensures.bad (passed_on c.from_residual.ensures.1 bad) is.1) ∙ is.3)
 
 pub returns-clause-bad : goal.returns-clause-bad
 returns-clause-bad c bad content is =

@@ -1,9 +1,8 @@
-use Rattle.std.proofs.Common.{◌≡◌, ◌+◌, Err, List, ap, map, subst, sym, take, take_all}
-use Rattle.std.proofs.lemmas.Result.{err_from_is_err_and}
+use Rattle.std.proofs.Common.{◌+◌, List, map, subst, sym, take, take_all}
 use Rattle.serde_json.specs.View.{view}
 use Rattle.ibc_machine.specs.chain.Genesis.{Holding}
 use Rattle.ibc_script.specs.ScriptValues.{AreEach, IsHolding}
-use Rattle.ibc_script.specs.declared.fault.Fault.TheVariants.{BadScript}
+use Rattle.ibc_script.proofs.PassedFaults.{passed_on}
 use Rattle.ibc_script.proofs.Values.{none_at, pushed}
 use Rattle.ibc_script.proofs.reading.chains.read_balances.Goals as goal
 
@@ -19,7 +18,5 @@ returns-clause-holdings c =
 
 pub returns-in_err-read_balance-clause-bad : goal.returns-in_err-read_balance-clause-bad
 returns-in_err-read_balance-clause-bad c bad balances each =
-    let p = err_from_is_err_and c.from_residual-in_err-read_balance.result c.from_residual-in_err-read_balance.ensures.1 in
-    let fault : c.in_err-read_balance.field-0.0 ≡ BadScript = (let a = p.1 in let b = p.2 in cc) in
     none_at IsHolding balances c.args.values.now c.loop-value.value-index c.value-item.result c.loop-value-test.true c.value-item.is
-    (c.in_err-read_balance.ensures.bad (ap Err fault)) each
+    (c.in_err-read_balance.ensures.bad (passed_on c.from_residual-in_err-read_balance.ensures.1 bad)) each

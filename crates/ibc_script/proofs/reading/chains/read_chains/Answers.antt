@@ -1,11 +1,10 @@
-use Rattle.std.proofs.Common.{◌≡◌, ◌∙◌, ◌+◌, ◌++◌, [], ◌∷◌, ℕ, Err, List, Some, ap, arith, length, length-append, map, slice_get, subst, sym, take, take_all, zip}
+use Rattle.std.proofs.Common.{◌≡◌, ◌∙◌, ◌+◌, ◌++◌, [], ◌∷◌, ℕ, List, Some, ap, arith, length, length-append, map, slice_get, subst, sym, take, take_all, zip}
 use Rattle.std.proofs.lemmas.List.{length-map, map-append}
-use Rattle.std.proofs.lemmas.Result.{err_from_is_err_and}
 use Rattle.serde_json.specs.View.{view}
 use Rattle.ibc_ids.specs.Texts.{Text}
 use Rattle.ibc_machine.specs.chain.Genesis.{ChainState, chain_state}
 use Rattle.ibc_script.specs.ScriptValues.{AreDifferent, AreEach, IsChainStart}
-use Rattle.ibc_script.specs.declared.fault.Fault.TheVariants.{BadScript}
+use Rattle.ibc_script.proofs.PassedFaults.{passed_on}
 use Rattle.ibc_script.proofs.Values.{chains_counted, more_different, named_twice, none_at, pushed, zip_push}
 use Rattle.ibc_script.proofs.reading.chains.read_chains.Goals as goal
 
@@ -51,10 +50,8 @@ returns-then-values-gt-MOST_CHAINS-clause-bad c bad names starts are =
 
 pub returns-in_err-name-clause-bad : goal.returns-in_err-name-clause-bad
 returns-in_err-name-clause-bad c bad names starts are =
-    let p = err_from_is_err_and c.from_residual-in_err-name.result c.from_residual-in_err-name.ensures.1 in
-    let fault : c.in_err-name.field-0.0 ≡ BadScript = (let a = p.1 in let b = p.2 in cc) in
     none_at IsChainStart (zip names starts) c.args.values.now c.loop-value.value-index c.value-item.result c.loop-value-test.true c.value-item.is
-    (c.in_err-name.ensures.bad (ap Err fault)) are.0
+    (c.in_err-name.ensures.bad (passed_on c.from_residual-in_err-name.ensures.1 bad)) are.0
 
 -- a name that stands among those before
 pub returns-then-is_known-clause-bad : goal.returns-then-is_known-clause-bad

@@ -1,12 +1,11 @@
-use Rattle.std.proofs.Common.{◌≡◌, ◌∙◌, ◌+◌, [], ◌∷◌, All, Err, List, ap, arith, length, length-append, map, subst, sym, take, take_all}
+use Rattle.std.proofs.Common.{◌∙◌, ◌+◌, [], ◌∷◌, All, List, ap, arith, length, length-append, map, subst, sym, take, take_all}
 use Rattle.std.proofs.lemmas.List.{length-map}
 use Rattle.std.proofs.lemmas.List.Elements.{All-push}
-use Rattle.std.proofs.lemmas.Result.{err_from_is_err_and}
 use Rattle.serde_json.specs.View.{view}
 use Rattle.ibc_script.specs.Scripts.{IsAmong}
 use Rattle.ibc_script.specs.ScriptValues.{AreEach, IsStepObject}
-use Rattle.ibc_script.specs.declared.fault.Fault.TheVariants.{BadScript}
 use Rattle.ibc_script.specs.declared.script.Step.{Step}
+use Rattle.ibc_script.proofs.PassedFaults.{passed_on}
 use Rattle.ibc_script.proofs.Values.{as_many, none_at, pushed}
 use Rattle.ibc_script.proofs.reading.steps.read_steps.Goals as goal
 
@@ -41,7 +40,5 @@ returns-then-values-gt-MOST_STEPS-clause-bad c bad steps few each =
 
 pub returns-in_err-step-clause-bad : goal.returns-in_err-step-clause-bad
 returns-in_err-step-clause-bad c bad steps few each =
-    let p = err_from_is_err_and c.from_residual-in_err-step.result c.from_residual-in_err-step.ensures.1 in
-    let fault : c.in_err-step.field-0.0 ≡ BadScript = (let a = p.1 in let b = p.2 in cc) in
     none_at (IsStepObject c.args.names.now) steps c.args.values.now c.loop-object.object-index c.object-item.result c.loop-object-test.true c.object-item.is
-    (c.in_err-step.ensures.bad (ap Err fault)) each
+    (c.in_err-step.ensures.bad (passed_on c.from_residual-in_err-step.ensures.1 bad)) each

@@ -1,11 +1,10 @@
-use Rattle.std.proofs.Common.{◌≡◌, ◌∙◌, ◌+◌, Err, List, ap, map, subst, sym, take, take_all}
+use Rattle.std.proofs.Common.{◌≡◌, ◌∙◌, ◌+◌, List, ap, map, subst, sym, take, take_all}
 use Rattle.std.proofs.lemmas.Bool.{false≢true}
-use Rattle.std.proofs.lemmas.Result.{err_from_is_err_and}
 use Rattle.serde_json.specs.View.{view}
 use Rattle.ibc_wire.specs.Tokens.{is_listed}
 use Rattle.ibc_wire.specs.declared.token.Token.{Token}
 use Rattle.ibc_script.specs.ScriptValues.{AreEach, IsToken}
-use Rattle.ibc_script.specs.declared.fault.Fault.TheVariants.{BadScript}
+use Rattle.ibc_script.proofs.PassedFaults.{passed_on}
 use Rattle.ibc_script.proofs.Values.{none_at, one_token, pushed, same_each}
 use Rattle.ibc_script.proofs.reading.transfers.read_tokens.Goals as goal
 
@@ -22,10 +21,8 @@ returns-then-is_listed-clause-tokens c =
 
 pub returns-in_err-read_token-clause-bad : goal.returns-in_err-read_token-clause-bad
 returns-in_err-read_token-clause-bad c bad tokens listed each =
-    let p = err_from_is_err_and c.from_residual-in_err-read_token.result c.from_residual-in_err-read_token.ensures.1 in
-    let fault : c.in_err-read_token.field-0.0 ≡ BadScript = (let a = p.1 in let b = p.2 in cc) in
     none_at IsToken tokens c.args.values.now c.loop-value.value-index c.value-item.result c.loop-value-test.true c.value-item.is
-    (c.in_err-read_token.ensures.bad (ap Err fault)) each
+    (c.in_err-read_token.ensures.bad (passed_on c.from_residual-in_err-read_token.ensures.1 bad)) each
 
 -- the tokens that were read are the only ones
 pub returns-else-is_listed-clause-bad : goal.returns-else-is_listed-clause-bad

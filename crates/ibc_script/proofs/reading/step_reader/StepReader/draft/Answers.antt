@@ -2,7 +2,8 @@ use Rattle.std.proofs.Common.{◌∙◌, codes, sym}
 use Rattle.std.proofs.lemmas.Str.Pattern.{ends_text, starts_text}
 use Rattle.serde_json.specs.View.{view}
 use Rattle.ibc_script.specs.declared.fault.Fault.TheVariants.{BadScript}
-use Rattle.ibc_script.proofs.StepWords.{err_before, only_channels, only_clients, only_connections, only_packets}
+use Rattle.ibc_script.proofs.PassedFaults.{err_before}
+use Rattle.ibc_script.proofs.StepWords.{only_channels, only_clients, only_connections, only_packets}
 use Rattle.ibc_script.proofs.reading.step_reader.StepReader.draft.Goals as goal
 
 pub returns-then-ends_with-clause-bad : goal.returns-then-ends_with-clause-bad

@@ -1,15 +1,12 @@
-use Rattle.std.proofs.Common.{◌≡◌, ◌∙◌, Err, Some, ap, slice_get, subst, sym}
+use Rattle.std.proofs.Common.{◌≡◌, ◌∙◌, Some, slice_get, subst, sym}
 use Rattle.std.proofs.lemmas.Option.{same_Some}
-use Rattle.std.proofs.lemmas.Result.{err_from_is_err_and}
 use Rattle.ibc_ids.specs.Texts.{Text}
-use Rattle.ibc_script.specs.declared.fault.Fault.TheVariants.{BadScript}
+use Rattle.ibc_script.proofs.PassedFaults.{passed_on}
 use Rattle.ibc_script.proofs.reading.step_reader.StepReader.item_chain.Goals as goal
 
 pub returns-in_err-item_text-clause-bad : goal.returns-in_err-item_text-clause-bad
 returns-in_err-item_text-clause-bad c bad n is =
-    let p = err_from_is_err_and c.from_residual.result c.from_residual.ensures.1 in
-    let fault : c.in_err-item_text.field-0.0 ≡ BadScript = (let a = p.1 in let b = p.2 in cc) in
-    c.in_err-item_text.ensures.bad (ap Err fault) is.0 is.2
+    c.in_err-item_text.ensures.bad (passed_on c.from_residual.ensures.1 bad) is.0 is.2
 
 pub returns-clause-bad : goal.returns-clause-bad
 returns-clause-bad c bad n is =

@@ -1,16 +1,12 @@
-use Rattle.std.proofs.Common.{◌≡◌, Err, ap}
-use Rattle.std.proofs.lemmas.Result.{err_from_is_err_and}
 use Rattle.serde_json.specs.View.{view}
-use Rattle.ibc_script.specs.declared.fault.Fault.TheVariants.{BadScript}
+use Rattle.ibc_script.proofs.PassedFaults.{passed_on}
 use Rattle.ibc_script.proofs.StepWords.{no_step, says_something}
 use Rattle.ibc_script.proofs.reading.step_reader.StepReader.step.Goals as goal
 
 pub returns-in_err-kind-clause-bad : goal.returns-in_err-kind-clause-bad
 returns-in_err-kind-clause-bad c bad s is =
-    let p = err_from_is_err_and c.from_residual.result c.from_residual.ensures.1 in
-    let fault : c.in_err-kind.field-0.0 ≡ BadScript = (let a = p.1 in let b = p.2 in cc) in
     let said = says_something c.args.self.now.names.now (view c.args.self.now.object.now) s is in
-    c.in_err-kind.ensures.bad (ap Err fault) said.0 said.1
+    c.in_err-kind.ensures.bad (passed_on c.from_residual.ensures.1 bad) said.0 said.1
 
 pub returns-in_default-clause-bad : goal.returns-in_default-clause-bad
 returns-in_default-clause-bad c bad =
