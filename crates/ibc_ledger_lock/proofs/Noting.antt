@@ -30,7 +30,7 @@ use Rattle.ibc_ledger_lock.specs.ReceiptsAndReadings.{IsBehind, IsEarlier, IsEar
 -- ---- what a call adds
 
 -- the ledger goes on, and it was asked once more
-pub goes_on : (old new : Ledger) (event : Event) (given : Reply) (calls : List Call) → AddsOrNot old event given new
+goes_on : (old new : Ledger) (event : Event) (given : Reply) (calls : List Call) → AddsOrNot old event given new
     → IsKnownBeginning (known_with old calls) (known_with new (calls ++ call_of event given ∷ []))
 goes_on old new event given calls =
     ⊎_elim
@@ -69,7 +69,7 @@ written_first [] = refl
 written_first (h ∷ happened) = ap (λ l. h ∷ l) (written_first happened)
 
 -- one call more
-pub asked_more : (old new : Ledger) (event : Event) (given : Reply) (calls : List Call) → AddsOrNot old event given new → AreCallsOf old calls
+asked_more : (old new : Ledger) (event : Event) (given : Reply) (calls : List Call) → AddsOrNot old event given new → AreCallsOf old calls
     → AreCallsOf new (calls ++ call_of event given ∷ [])
 asked_more old new event given calls adds are =
     ⊎_elim
@@ -85,7 +85,7 @@ asked_more old new event given calls adds are =
     adds
 
 -- the call that was made last is the receipt's
-pub told_last : (event : Event) (given : Reply) (calls : List Call) → (asked_by (last_call (calls ++ call_of event given ∷ [])) ≡ event)
+told_last : (event : Event) (given : Reply) (calls : List Call) → (asked_by (last_call (calls ++ call_of event given ∷ [])) ≡ event)
     × (length (calls ++ call_of event given ∷ []) - 1 ≡ length calls) × IsLastAnswered given (calls ++ call_of event given ∷ [])
 told_last event given calls =
     let c = call_of event given in
@@ -94,6 +94,46 @@ told_last event given calls =
       (let one_more = length-append calls (c ∷ []) in omega arith),
       subst (λ (o : Option Call). IsSomeAnd o (λ x. x ≡ call_of (asked_by x) given)) (sym last) (ap (λ e. call_of e given) (sym (asked_of event given))),
     )
+
+-- ---- a call is noted behind these
+
+pub record IsNoted (old new : Ledger) (event : Event) (given : Reply) (calls : List Call) (known : KnownLedger) (marked : List Call) : Type 0 where
+  pub chain : new.chain ≡ old.chain
+  pub genesis : new.genesis ≡ old.genesis
+  pub own : known ≡ known_with new known.calls
+  pub of_ledger : AreCallsOf old calls → AreCallsOf new known.calls
+  pub called : known.calls ≡ calls ++ call_of event given ∷ []
+  pub told : asked_by (last_call marked) ≡ event
+  pub place : length marked - 1 ≡ length calls
+  pub answered : IsLastAnswered given marked
+
+-- the event is by the chain's number, which stays
+module _ (old new : Ledger) (of : ℕ → Event) (noted : Event) (given : Reply) (calls : List Call) (adds : AddsOrNot old (of old.chain) given new) (is : noted ≡ of new.chain) where
+  asked : noted ≡ of old.chain
+  asked = is ∙ ap of (same old new (of old.chain) given adds).0
+
+  pub begins_noted : {known : KnownLedger} → known ≡ known_with old calls → IsKnownBeginning known (known_with new (calls ++ call_of noted given ∷ []))
+  begins_noted {known} own =
+      subst (λ (e : Event). IsKnownBeginning known (known_with new (calls ++ call_of e given ∷ []))) (sym asked)
+      (subst (λ (k : KnownLedger). IsKnownBeginning k (known_with new (calls ++ call_of (of old.chain) given ∷ []))) (sym own) (goes_on old new (of old.chain) given calls adds))
+
+  pub is_noted : {known : KnownLedger} {marked : List Call} → known ≡ known_with new (calls ++ call_of noted given ∷ []) → marked ≡ known.calls
+      → IsNoted old new (of old.chain) given calls known marked
+  is_noted {known} {marked} keeper mark =
+      let stays = same old new (of old.chain) given adds in
+      let long : known.calls ≡ calls ++ call_of noted given ∷ [] = ap (λ (k : KnownLedger). k.calls) keeper in
+      let called = long ∙ ap (λ (e : Event). calls ++ call_of e given ∷ []) asked in
+      let last = told_last noted given calls in
+      record {
+        chain = stays.0;
+        genesis = stays.1;
+        own = keeper ∙ ap (known_with new) (sym long);
+        of_ledger = λ are. subst (AreCallsOf new) (sym called) (asked_more old new (of old.chain) given calls adds are);
+        called = called;
+        told = ap (λ (l : List Call). asked_by (last_call l)) (mark ∙ long) ∙ last.0 ∙ asked;
+        place = ap (λ (l : List Call). length l - 1) (mark ∙ long) ∙ last.1;
+        answered = subst (IsLastAnswered given) (sym (mark ∙ long)) last.2;
+      }
 
 -- ---- what was so once
 

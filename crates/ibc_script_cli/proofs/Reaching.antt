@@ -1,5 +1,5 @@
 -- Runs of acts, one after another.
-use Rattle.std.proofs.Common.{◌∙◌, ℕ, zero, suc, List, [], ◌∷◌, ◌++◌, append_assoc, append-nil, Option, Result, Ok, Err, sym, ap, subst, refl, inl, inr}
+use Rattle.std.proofs.Common.{◌≡◌, ◌∙◌, ℕ, zero, suc, List, [], ◌∷◌, ◌++◌, append_assoc, append-nil, Option, Result, Ok, Err, sym, ap, subst, refl, inl, inr}
 use Rattle.std.specs.Io.KnownBytes.{Appends, Keeps}
 use Rattle.ibc_ids.specs.Texts.{Text}
 use Rattle.ibc_machine.specs.declared.reply.Effect.{Effect}
@@ -77,6 +77,11 @@ module _ {C : Type 0} (chains : ScriptChains C) (names : List Text) where
   and_then {acts} {old} {before} {some} {mid} {between} {left} {new} {after} first second =
       let all = one_after_another first.count second.count acts old first.text some mid second.text left new first.reaches second.reaches in
       record { count = all.0; text = first.text ++ second.text; reaches = all.1; appends = appends_both before between after first.text second.text first.appends second.appends }
+
+  -- what is left, told in another way
+  pub left_as : {acts some left : List Act} {old mid : C} {before between : Option Text} → some ≡ left → Reached chains names acts old before some mid between
+      → Reached chains names acts old before left mid between
+  left_as {acts} {old = old} {mid = mid} {before = before} {between = between} is = subst (λ (l : List Act). Reached chains names acts old before l mid between) is
 
   -- an output that is kept afterwards
   pub kept_reached : {acts left : List Act} {old new : C} {before mid after : Option Text} → Reached chains names acts old before left new mid → Keeps mid after

@@ -1,9 +1,7 @@
-use Rattle.std.proofs.Common.{[], ◌∷◌, ◌∙◌, List, ap, arith, length, map, subst, sym}
-use Rattle.ibc_script_cli.proofs.Reaching.{goes_on, stops_on}
+use Rattle.std.proofs.Common.{[], ◌∷◌, ◌∙◌, ap, arith, length, map, sym}
+use Rattle.ibc_script_cli.proofs.Reaching.{goes_on, left_as, stops_on}
 use Rattle.std.proofs.lemmas.Result.{err_from_is_err_and}
-use Rattle.ibc_script_cli.specs.Runs.{Reached}
 use Rattle.ibc_script_cli.specs.Runs.Act.{Send}
-use Rattle.ibc_wire.specs.declared.messages.Message.{Message}
 use Rattle.std.specs.Vec.Iter.{into_iter_items}
 use Rattle.std.proofs.lemmas.List.{nil_from_length}
 use Rattle.ibc_script_cli.proofs.runner.Runner.send_each.Goals as goal
@@ -17,7 +15,7 @@ loop-message-preserved g c =
           let counted = c.loop-message.invariant.counted in
           omega arith;
       ran = goes_on g.C.Chains.known c.args.self.now.names.now (Send c.args.on c.in-Some.message ∷ []) (map (Send c.args.on) (into_iter_items c.next.new.self))
-          (subst (λ (l : List Message). Reached g.C.Chains.known c.args.self.now.names.now (map (Send c.args.on) c.args.messages.items) c.args.chains.now (g.W.Write.contents c.args.output.now) (map (Send c.args.on) l) c.loop-message.chains (g.W.Write.contents c.loop-message.output)) c.in-Some.ensures.steps.0 c.loop-message.invariant.ran)
+          (left_as g.C.Chains.known c.args.self.now.names.now (ap (map (Send c.args.on)) c.in-Some.ensures.steps.0) c.loop-message.invariant.ran)
           c.in_ok-send.ensures.ran;
     }
 
@@ -25,10 +23,10 @@ pub returns-in_err-send-clause-ran : goal.returns-in_err-send-clause-ran
 returns-in_err-send-clause-ran g c =
     let p = err_from_is_err_and c.from_residual.result c.from_residual.ensures.1 in rw p.1
     (stops_on g.C.Chains.known c.args.self.now.names.now (Send c.args.on c.in-Some.message ∷ []) (map (Send c.args.on) (into_iter_items c.next.new.self))
-    (subst (λ (l : List Message). Reached g.C.Chains.known c.args.self.now.names.now (map (Send c.args.on) c.args.messages.items) c.args.chains.now (g.W.Write.contents c.args.output.now) (map (Send c.args.on) l) c.loop-message.chains (g.W.Write.contents c.loop-message.output)) c.in-Some.ensures.steps.0 c.loop-message.invariant.ran)
+    (left_as g.C.Chains.known c.args.self.now.names.now (ap (map (Send c.args.on)) c.in-Some.ensures.steps.0) c.loop-message.invariant.ran)
     c.in_err-send.ensures.ran)
 
 pub returns-clause-ran : goal.returns-clause-ran
 returns-clause-ran g c =
     let none = nil_from_length (into_iter_items c.loop-message.message-iterator) (sym c.loop-message.invariant.counted ∙ c.in-None.ensures.steps.0) in
-    subst (λ (l : List Message). Reached g.C.Chains.known c.args.self.now.names.now (map (Send c.args.on) c.args.messages.items) c.args.chains.now (g.W.Write.contents c.args.output.now) (map (Send c.args.on) l) c.loop-message.chains (g.W.Write.contents c.loop-message.output)) none c.loop-message.invariant.ran
+    left_as g.C.Chains.known c.args.self.now.names.now (ap (map (Send c.args.on)) none) c.loop-message.invariant.ran
